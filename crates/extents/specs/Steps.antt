@@ -1,9 +1,8 @@
--- The words of the inner functions: where a block is met, joins, what lies left and right. Assumes nothing.
+-- The words of the inner functions: where a block is met, joins, what lies left and right of a block. Assumes nothing.
 use mathlib.Core.Bool.{Bool, cond}
-use mathlib.Core.List.{List, [], _∷_, _++_}
-use Prim.Native.Nat.{ℕ, suc, _+_, _-_}
+use mathlib.Core.List.{List, [], _∷_}
+use Prim.Native.Nat.{ℕ, suc, _+_, _-_, _^_, _<_}
 use lib.Dec.{leb, ltb}
-use lib.ListN.{take, drop}
 use Rattle.std.specs.declared.option.Option.{Option}
 use Rattle.std.specs.declared.option.Option.the-variants.{Some, None}
 use Rattle.extents.specs.declared.extent.Extent.{Extent}
@@ -23,21 +22,23 @@ joined advanced same e (x ∷ xs) = cond (goes-on advanced same e x) (extent (e 
 abbrev pub without : {T : Type 0} → (T → ℕ → T) → ℕ → Extent T → Extent T
 without advanced k e = extent (e .first + k) (e .length - k) (advanced (e .target) k)
 
--- What a list, whose first extent ends past c, has from the block c on.
-abbrev pub right-of : {T : Type 0} → (T → ℕ → T) → ℕ → List (Extent T) → List (Extent T)
-right-of advanced c [] = []
-right-of advanced c (e ∷ es) = cond (leb (e .first) c) (without advanced (c - e .first) e ∷ es) (e ∷ es)
+-- What an extent has before the block a, if it begins before it.
+abbrev pub left-of : {T : Type 0} → ℕ → Extent T → Option (Extent T)
+left-of a e = cond (ltb (e .first) a) (Some (extent (e .first) (a - e .first) (e .target))) None
 
--- R, after what a list, whose first extent ends at a or later, has before the block a.
-abbrev pub after-left : {T : Type 0} → (T → ℕ → T) → (T → T → Bool) → ℕ → List (Extent T) → List (Extent T) → List (Extent T)
-after-left advanced same a R [] = R
-after-left advanced same a R (e ∷ es) = cond (ltb (e .first) a) (joined advanced same (extent (e .first) (a - e .first) (e .target)) R) R
+-- What an extent that ends past c has from the block c on, if it begins by c.
+abbrev pub right-of : {T : Type 0} → (T → ℕ → T) → ℕ → Extent T → Option (Extent T)
+right-of advanced c e = cond (leb (e .first) c) (Some (without advanced (c - e .first) e)) None
 
--- A table with an extent inserted.
-abbrev pub inserted : {T : Type 0} → (T → ℕ → T) → (T → T → Bool) → Extent T → List (Extent T) → List (Extent T)
-inserted advanced same e xs =
-    take (reach (e .first) xs) xs
-    ++ after-left advanced same (e .first) (joined advanced same e (right-of advanced (end e) (drop (reach (end e + 1) xs) xs))) (drop (reach (e .first) xs) xs)
+-- What is asked of a list's first, if it has one.
+abbrev pub at-head : {X Y : Type 0} → (X → Option Y) → List X → Option Y
+at-head f [] = None
+at-head f (x ∷ xs) = f x
+
+-- An extent after another, if there is one, joined to that where it goes on from it.
+abbrev pub joined-onto : {T : Type 0} → (T → ℕ → T) → (T → T → Bool) → Option (Extent T) → Extent T → List (Extent T)
+joined-onto advanced same None e = e ∷ []
+joined-onto advanced same (Some l) e = joined advanced same l (e ∷ [])
 
 -- A table without what is short of a limit: `short` tells how many blocks from a target on are.
 abbrev pub sieved : {T : Type 0} → (T → ℕ → T) → (T → ℕ) → List (Extent T) → List (Extent T)
@@ -48,3 +49,8 @@ sieved advanced short (e ∷ es) = cond (ltb (short (e .target)) (e .length)) (w
 abbrev pub listed : {X : Type 0} → Option X → List X
 listed None = []
 listed (Some x) = x ∷ []
+
+-- What an option holds, if anything, ends by the last block number of 32 bits.
+abbrev pub Ends-in-width : {T : Type 0} → Option (Extent T) → Type 0
+Ends-in-width None = Unit {0}
+Ends-in-width (Some e) = end e < 2 ^ 32

@@ -10,4 +10,10 @@ returns-then-e-block g c =
     ∙ found-target (g .T·Target .laws) (c .args .s .now) (c .reached-i .result) _ (c .reached-i .ensures) (c .args .block) refl (c .index-s-i .result) (c .if-i-s .taken) (c .index-s-i .is) (2 ^ 32 - 1) (c .pre .range) (c .if-e-block .taken)
 
 pub returns : need.returns
-returns g c = ?
+returns g c =
+    let laws = g .T·Target .laws in
+    let xs = c .args .s .now in
+    elim (c .if-i-s .came) [
+      | then-i-s·else-e-block w ↦ found-later laws xs (c .reached-i .result) _ (c .reached-i .ensures) (c .args .block) refl (w .index-s-i .result) (w .if-i-s .taken) (w .index-s-i .is) (c .pre .table) (w .if-e-block .left)
+      | else-i-s w ↦ found-none laws xs (c .reached-i .result) _ (c .reached-i .ensures) (c .args .block) refl (w .if-i-s .left)
+    ]
