@@ -5,3 +5,5 @@ pub mod Splice
 pub mod Joining
 pub mod Insertion
 pub mod Assembly
+pub mod Rooms
+pub mod Appending

@@ -30,11 +30,12 @@ extent-refusal advanced fits blocks e =
     (cond (ltb blocks (end e)) (Some (fault-number OutOfRange))
     (cond (fits (advanced (e .target) (e .length - 1))) None (Some (fault-number TooWide))))
 
--- Why it does not take one at the table's end: the same, or the longer list is no table.
+-- The first of two reasons that there is.
+abbrev pub first-of : Option ℕ → Option ℕ → Option ℕ
+first-of (Some n) o = Some n
+first-of None o = o
+
+-- Why it does not take one at the table's end: the same, or else the longer list is no table.
 abbrev pub append-refusal : {T : Type 0} → (T → ℕ → T) → (T → T → Bool) → (T → Bool) → ℕ → List (Extent T) → Extent T → Option ℕ
 append-refusal advanced same fits blocks xs e =
-    cond (eqb (e .length) 0) (Some (fault-number Empty))
-    (cond (ltb blocks (end e)) (Some (fault-number OutOfRange))
-    (cond (fits (advanced (e .target) (e .length - 1)))
-    (cond (is-table advanced same (xs ++ e ∷ [])) None (Some (fault-number Disorder)))
-    (Some (fault-number TooWide))))
+    first-of (extent-refusal advanced fits blocks e) (cond (is-table advanced same (xs ++ e ∷ [])) None (Some (fault-number Disorder)))

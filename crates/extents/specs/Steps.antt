@@ -1,6 +1,6 @@
 -- The words of the inner functions: where a block is met, joins, what lies left and right of a block. Assumes nothing.
 use mathlib.Core.Bool.{Bool, cond}
-use mathlib.Core.List.{List, [], _∷_}
+use mathlib.Core.List.{List, [], _∷_, _++_}
 use Prim.Native.Nat.{ℕ, suc, _+_, _-_, _^_, _<_}
 use lib.Dec.{leb, ltb}
 use Rattle.std.specs.declared.option.Option.{Option}
@@ -40,15 +40,19 @@ abbrev pub joined-onto : {T : Type 0} → (T → ℕ → T) → (T → T → Boo
 joined-onto advanced same None e = e ∷ []
 joined-onto advanced same (Some l) e = joined advanced same l (e ∷ [])
 
--- A table without what is short of a limit: `short` tells how many blocks from a target on are.
-abbrev pub sieved : {T : Type 0} → (T → ℕ → T) → (T → ℕ) → List (Extent T) → List (Extent T)
-sieved advanced short [] = []
-sieved advanced short (e ∷ es) = cond (ltb (short (e .target)) (e .length)) (without advanced (short (e .target)) e ∷ sieved advanced short es) (sieved advanced short es)
-
 -- What an option holds, as a list.
 abbrev pub listed : {X : Type 0} → Option X → List X
 listed None = []
 listed (Some x) = x ∷ []
+
+-- What an extent has from a limit on, if anything: `short` tells how many blocks from a target on are below the limit.
+abbrev pub kept-of : {T : Type 0} → (T → ℕ → T) → (T → ℕ) → Extent T → Option (Extent T)
+kept-of advanced short e = cond (ltb (short (e .target)) (e .length)) (Some (without advanced (short (e .target)) e)) None
+
+-- A table without what is below the limit.
+abbrev pub sieved : {T : Type 0} → (T → ℕ → T) → (T → ℕ) → List (Extent T) → List (Extent T)
+sieved advanced short [] = []
+sieved advanced short (e ∷ es) = listed (kept-of advanced short e) ++ sieved advanced short es
 
 -- What an option holds, if anything, ends by the last block number of 32 bits.
 abbrev pub Ends-in-width : {T : Type 0} → Option (Extent T) → Type 0

@@ -5,11 +5,12 @@ ghost use mathlib.Core.List.{[], _∷_, _++_};
 ghost use Prim.Native.Nat.{ℕ, _+_, _-_, _^_, _<_, _≤_};
 ghost use lib.Dec.{ltb};
 ghost use lib.ListN.{length, take, drop};
-ghost use Rattle.extents.specs.Map.{end, target-at, goes-on, is-table, in-range, all-in-range};
+ghost use Rattle.extents.specs.Map.{end, target-at, goes-on, may-follow, is-table, in-range, all-in-range};
 ghost use lib.Seq.{paste};
 ghost use Rattle.extents.specs.Answers.{overlaid};
-ghost use Rattle.extents.specs.Steps.{reach, joined, joined-onto, left-of, right-of, at-head, listed, Ends-in-width};
+ghost use Rattle.extents.specs.Steps.{reach, joined, joined-onto, left-of, right-of, at-head, listed, Ends-in-width, kept-of, sieved};
 use crate::extent::Extent;
+use crate::target::Ordered;
 use crate::target::Target;
 
 mod rows;
@@ -224,4 +225,58 @@ fn insert<T: Target>(s: &mut [Extent<T>], count: usize, e: Extent<T>) -> usize
     let (middle, third) = join_right(e, right);
     let (head, second) = join_left(left, middle);
     put(s, count, i, j + held(right), head, second, third)
+}
+
+// Whether `e` may stand right after `last`.
+fn may_follow<T: Target>(last: Extent<T>, e: Extent<T>) -> bool
+    ensures { λ r. ⌜ r ≡ may-follow advanced same last (e ∷ []) ⌝ }
+{
+    last.first as u64 + last.length as u64 <= e.first as u64 && !goes_on(last, e)
+}
+
+// Whether the table is still one with `e` after it.
+fn extends<T: Target>(s: &[Extent<T>], e: Extent<T>) -> bool
+    requires table { ⌜ is-table advanced same (now s) ≡ true ⌝ }
+    requires some { ⌜ 1 ≤ e .length ⌝ }
+    ensures { λ r. ⌜ r ≡ is-table advanced same (now (s .entry) ++ e ∷ []) ⌝ }
+{
+    let n = s.len();
+    if n == 0 {
+        return true;
+    }
+    may_follow(s[n - 1], e)
+}
+
+// What `e` has from the target `limit` on.
+fn keep<T: Ordered>(e: Extent<T>, limit: T) -> Option<Extent<T>>
+    requires ends { ⌜ end e < 2 ^ 32 ⌝ }
+    requires fits { ⌜ (short (e .target) limit < e .length → T·Target .fits (T·Target .advanced (e .target) (short (e .target) limit)) ≡ true) ⌝ }
+    ensures { λ r. ⌜ r ≡ kept-of (T·Target .advanced) (λ t. short t limit) e ⌝ }
+{
+    let short = e.target.short_of(limit);
+    if short < e.length as u64 {
+        let k = short as u32;
+        Some(Extent {
+            first: e.first + k,
+            length: e.length - k,
+            target: e.target.advance(k).unwrap(),
+        })
+    } else {
+        None
+    }
+}
+
+// Takes away every target below `limit`, and answers how many extents are left.
+fn drop_below<T: Ordered>(s: &mut [Extent<T>], limit: T) -> usize
+    requires { ⌜ all-in-range (T·Target .advanced) (T·Target .fits) (2 ^ 32 - 1) (now s) ≡ true ⌝ }
+    ensures { λ r. ⌜ take r (now (s .exit)) ≡ sieved (T·Target .advanced) (λ t. short t limit) (now (s .entry)) ⌝ }
+{
+    let mut to = 0;
+    for i in 0..s.len() {
+        if let Some(e) = keep(s[i], limit) {
+            s[to] = e;
+            to += 1;
+        }
+    }
+    to
 }
