@@ -7,3 +7,5 @@ pub mod Insertion
 pub mod Assembly
 pub mod Rooms
 pub mod Appending
+pub mod Sieving
+pub mod Worked

@@ -6,3 +6,4 @@ pub mod Steps
 pub mod Faults
 pub mod Rows
 pub mod Answers
+pub mod Examples

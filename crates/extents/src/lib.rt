@@ -4,6 +4,7 @@ mod fault;
 mod numbers;
 mod table;
 mod target;
+mod theorems;
 
 pub use extent::Extent;
 pub use fault::MapFault;
@@ -16,3 +17,5 @@ pub use target::Record;
 pub use target::RecordOrdered;
 pub use target::RecordTarget;
 pub use target::Target;
+pub use theorems::examples_hold;
+pub use theorems::one_writing;

@@ -85,10 +85,7 @@ fn join<T: Target>(e: Extent<T>, next: Extent<T>) -> (Extent<T>, Option<Extent<T
 }
 
 // `e` and what lies right of it, joined.
-fn join_right<T: Target>(
-    e: Extent<T>,
-    right: Option<Extent<T>>,
-) -> (Extent<T>, Option<Extent<T>>)
+fn join_right<T: Target>(e: Extent<T>, right: Option<Extent<T>>) -> (Extent<T>, Option<Extent<T>>)
     requires { ⌜ Ends-in-width right ⌝ }
     ensures { λ r. ⌜ joined advanced same e (listed right) ≡ r .0 ∷ listed (r .1) ⌝ }
 {
@@ -155,7 +152,11 @@ fn right_at<T: Target>(s: &[Extent<T>], j: usize, c: u32) -> Option<Extent<T>>
     requires range { ⌜ all-in-range advanced fits (2 ^ 32 - 1) (now s) ≡ true ⌝ }
     ensures { λ r. ⌜ r ≡ at-head (right-of advanced c) (drop j (now (s .entry))) ⌝ }
 {
-    if j < s.len() { cut_right(s[j], c) } else { None }
+    if j < s.len() {
+        cut_right(s[j], c)
+    } else {
+        None
+    }
 }
 
 // How many values `x` holds.
