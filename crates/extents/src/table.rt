@@ -128,11 +128,10 @@ fn cut_right<T: Target>(e: Extent<T>, c: u32) -> Option<Extent<T>>
     ensures { λ r. ⌜ r ≡ right-of advanced c e ⌝ }
 {
     if e.first <= c {
-        let k = c - e.first;
         Some(Extent {
-            first: e.first + k,
-            length: e.length - k,
-            target: e.target.advance(k).unwrap(),
+            first: c,
+            length: e.length - (c - e.first),
+            target: e.target.advance(c - e.first).unwrap(),
         })
     } else {
         None

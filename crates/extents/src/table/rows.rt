@@ -3,6 +3,7 @@ ghost use mathlib.Core.Path.{_≡_};
 ghost use mathlib.Core.Bool.{true};
 ghost use mathlib.Core.List.{[]};
 ghost use Prim.Native.Nat.{ℕ};
+ghost use lib.ListN.{length};
 ghost use Rattle.std.specs.declared.option.Option.the-variants.{Some, None};
 ghost use Rattle.std.specs.declared.result.Result.the-variants.{Ok, Err};
 ghost use Rattle.extents.specs.Map.{target-at, is-table};
@@ -65,6 +66,12 @@ impl<T: Target> Rows<T> {
         ensures sound { λ _. ⌜ sound advanced same fits (now (self .exit)) ≡ true ⌝ }
     {
         self.entries.clear();
+    }
+
+    fn count(&self) -> usize
+        ensures { λ r. ⌜ r ≡ length (table-of (now (self .entry))) ⌝ }
+    {
+        self.entries.as_slice().len()
     }
 
     fn extents(&self) -> &[Extent<T>]

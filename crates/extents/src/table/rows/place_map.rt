@@ -45,7 +45,7 @@ impl PlaceMap {
     pub fn count(&self) -> usize
         ensures { λ r. ⌜ r ≡ length (table-of (now (self .entry) .rows)) ⌝ }
     {
-        self.rows.extents().len()
+        self.rows.count()
     }
 
     // Its table.
