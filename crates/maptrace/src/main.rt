@@ -1,9 +1,10 @@
 // Reads map commands from standard input, a line each, says what each did, and at the end shows the maps.
 use command::Command;
 use extents::MapFault;
+use extents::Place;
+use extents::Record;
 use line::Line;
 use lines::next_line;
-use parse::parse;
 use std::io;
 use std::io::BufReader;
 use std::io::BufWriter;
@@ -12,11 +13,11 @@ use std::io::Write;
 use trace::BLOCKS;
 use trace::Outcome;
 use trace::Trace;
+use words::parse;
 
 mod command;
 mod line;
 mod lines;
-mod parse;
 mod trace;
 mod words;
 
@@ -29,6 +30,32 @@ fn reason(f: MapFault) -> &'static str {
         MapFault::OutOfRange => "it passes the last block",
         MapFault::TooWide => "its last target does not fit",
         MapFault::Disorder => "the table would be no table",
+    }
+}
+
+// Says which place and which record a block has.
+fn tell_found<W: Write>(
+    out: &mut W,
+    number: u32,
+    block: u32,
+    place: Option<Place>,
+    record: Option<Record>,
+) -> io::Result<()> {
+    write!(out, "{number}: block {block} has ")?;
+    match place {
+        Some(p) => {
+            let object = p.object;
+            let offset = p.offset;
+            write!(out, "place {object}@{offset}")?;
+        }
+        None => write!(out, "no place")?,
+    }
+    match record {
+        Some(r) => {
+            let n = r.number;
+            writeln!(out, " and record {n}")
+        }
+        None => writeln!(out, " and no record"),
     }
 }
 
@@ -53,22 +80,7 @@ fn tell<W: Write>(out: &mut W, number: u32, command: Command, outcome: Outcome) 
             writeln!(out, "{number}: dropped the records below {record}")
         }
         (Outcome::Found(place, record), Command::Lookup(block)) => {
-            write!(out, "{number}: block {block} has ")?;
-            match place {
-                Some(p) => {
-                    let object = p.object;
-                    let offset = p.offset;
-                    write!(out, "place {object}@{offset}")?;
-                }
-                None => write!(out, "no place")?,
-            }
-            match record {
-                Some(r) => {
-                    let n = r.number;
-                    writeln!(out, " and record {n}")
-                }
-                None => writeln!(out, " and no record"),
-            }
+            tell_found(out, number, block, place, record)
         }
         _ => Ok(()),
     }

@@ -5,6 +5,10 @@ ghost use lib.ListN.{length};
 ghost use Rattle.std.specs.Options.{mapped};
 ghost use Rattle.maptrace.specs.Words.{before-space, word, after-space, with-digit, number-of};
 
+mod parse;
+
+pub use parse::parse;
+
 // How many bytes stand before the first space.
 fn first_len(s: &[u8]) -> usize
     ensures value { λ r. ⌜ r ≡ before-space (now (s .entry)) ⌝ }
@@ -18,7 +22,7 @@ fn first_len(s: &[u8]) -> usize
 }
 
 // The first word, and what follows its space, if there is a space.
-pub fn cut(s: &[u8]) -> (&[u8], Option<&[u8]>)
+fn cut(s: &[u8]) -> (&[u8], Option<&[u8]>)
     ensures first { λ r. ⌜ now (r .0) ≡ word (now (s .entry)) ⌝ }
     ensures rest { λ r. ⌜ mapped (λ t. t .now) (r .1) ≡ after-space (now (s .entry)) ⌝ }
 {
@@ -43,7 +47,7 @@ fn with_digit(n: u32, b: u8) -> Option<u32>
 }
 
 // The number that a word writes.
-pub fn number(w: &[u8]) -> Option<u32>
+fn number(w: &[u8]) -> Option<u32>
     ensures { λ r. ⌜ r ≡ number-of (now (w .entry)) ⌝ }
 {
     if w.is_empty() {

@@ -82,8 +82,14 @@ impl Trace {
     pub fn placed(&self) -> u32
         ensures { λ r. ⌜ r ≡ mapped-below (target-at place-advanced (table-of (now (self .entry) .places .rows))) (now (self .entry) .places .rows .blocks) ⌝ }
     {
+        self.placed_below(self.places.blocks())
+    }
+
+    // How many of the first blocks do.
+    fn placed_below(&self, blocks: u32) -> u32
+        ensures { λ r. ⌜ r ≡ mapped-below (target-at place-advanced (table-of (now (self .entry) .places .rows))) blocks ⌝ }
+    {
         let mut n = 0;
-        let blocks = self.places.blocks();
         for b in 0..blocks {
             if self.places.lookup(b).is_some() {
                 n += 1;
@@ -96,8 +102,14 @@ impl Trace {
     pub fn recorded(&self) -> u32
         ensures { λ r. ⌜ r ≡ mapped-below (target-at record-advanced (table-of (now (self .entry) .records .rows))) (now (self .entry) .records .rows .blocks) ⌝ }
     {
+        self.recorded_below(self.records.blocks())
+    }
+
+    // How many of the first blocks do.
+    fn recorded_below(&self, blocks: u32) -> u32
+        ensures { λ r. ⌜ r ≡ mapped-below (target-at record-advanced (table-of (now (self .entry) .records .rows))) blocks ⌝ }
+    {
         let mut n = 0;
-        let blocks = self.records.blocks();
         for b in 0..blocks {
             if self.records.lookup(b).is_some() {
                 n += 1;

@@ -3,9 +3,9 @@ ghost use mathlib.Core.Path.{_≡_};
 ghost use Rattle.std.specs.Options.{mapped};
 ghost use Rattle.std.specs.shelf.Text.{sameBytes};
 ghost use Rattle.maptrace.specs.Commands.{first-number, only-number, insert-of, record-of, asked};
+use super::cut;
+use super::number;
 use crate::command::Command;
-use crate::words::cut;
-use crate::words::number;
 
 // Whether two words are the same.
 fn same(a: &[u8], b: &[u8]) -> bool

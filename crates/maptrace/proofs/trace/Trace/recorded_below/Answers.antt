@@ -6,8 +6,8 @@ use Rattle.extents.specs.Map.{target-at}
 use Rattle.extents.specs.Rows.{table-of}
 use Rattle.maptrace.specs.Traces.{mapped-below}
 use Rattle.maptrace.proofs.Counting.{mapped-few, mapped-more, mapped-same}
-use Rattle.maptrace.proofs.trace.Trace.recorded.Needs as need
-use Rattle.maptrace.proofs.trace.Trace.recorded.Needs.{then-is-some, else-is-some}
+use Rattle.maptrace.proofs.trace.Trace.recorded_below.Needs as need
+use Rattle.maptrace.proofs.trace.Trace.recorded_below.Needs.{then-is-some, else-is-some}
 
 pub add-n : need.add-n
 add-n c = let l = mapped-few (target-at record-advanced (table-of (c .args .self .now .records .rows))) (c .loop-b .n) (c .loop-b .b) (c .loop-b .inv) in omega arith
@@ -24,5 +24,5 @@ loop-b-again c =
 pub returns : need.returns
 returns c =
     let f = target-at record-advanced (table-of (c .args .self .now .records .rows)) in
-    let e : c .loop-b .b ≡ c .args .self .now .records .rows .blocks = omega (arith, c .loop-b-test .left, c .loop-b .kept .b-end, c .blocks-blocks .ensures) in
+    let e : c .loop-b .b ≡ c .args .blocks = omega (arith, c .loop-b-test .left, c .loop-b .kept .b-end) in
     c .loop-b .inv ∙ ap (mapped-below f) e
