@@ -46,8 +46,8 @@ module _ (d i : ℕ) (from to : List Slot) (within : i < length from) (even : le
 
   -- slot i is taken over
   pub mix-taken : (after whole : List Slot) → after ≡ set to i (getD from i []) → d % 2 ≡ 1
-    → take i to ++ mixed (bit d) (drop i from) (drop i to) ≡ whole
-    → take (i + 1) after ++ mixed (bit (d / 2)) (drop (i + 1) from) (drop (i + 1) after) ≡ whole
+      → take i to ++ mixed (bit d) (drop i from) (drop i to) ≡ whole
+      → take (i + 1) after ++ mixed (bit (d / 2)) (drop (i + 1) from) (drop (i + 1) after) ≡ whole
   mix-taken after whole is odd before =
       let x = getD from i [] in
       let a = take-more-set to i x (omega arith) in
@@ -59,8 +59,8 @@ module _ (d i : ℕ) (from to : List Slot) (within : i < length from) (even : le
 
   -- slot i stays
   pub mix-left : (after whole : List Slot) → after ≡ to → (d % 2 ≡ 1 → ⊥)
-    → take i to ++ mixed (bit d) (drop i from) (drop i to) ≡ whole
-    → take (i + 1) after ++ mixed (bit (d / 2)) (drop (i + 1) from) (drop (i + 1) after) ≡ whole
+      → take i to ++ mixed (bit d) (drop i from) (drop i to) ≡ whole
+      → take (i + 1) after ++ mixed (bit (d / 2)) (drop (i + 1) from) (drop (i + 1) after) ≡ whole
   mix-left after whole is low before =
       let x = getD to i [] in
       let a = take-more to i [] (omega arith) in
@@ -71,7 +71,7 @@ module _ (d i : ℕ) (from to : List Slot) (within : i < length from) (even : le
 
 -- nothing is left
 pub mix-done : (d i : ℕ) (from to : List Slot) → length from ≤ i → length to ≡ length from
-  → take i to ++ mixed (bit d) (drop i from) (drop i to) ≡ to
+    → take i to ++ mixed (bit d) (drop i from) (drop i to) ≡ to
 mix-done d i from to past even =
     let a = drop-all i from past in
     let b = take-all i to (omega arith) in

@@ -1,11 +1,12 @@
 // Slots in memory, which both drives are made of.
 ghost use mathlib.Core.Path.{_≡_};
 ghost use Prim.Native.Nat.{_<_, _≤_, _^_};
+ghost use mathlib.Core.List.{List};
 ghost use lib.ListN.{length, getD, set, replicate};
 ghost use Rattle.std.specs.Of.Vec.{vec-items};
 ghost use Rattle.std.specs.Vec.{made};
-ghost use Rattle.drive.specs.Views.{Full, Bytes, Made, zero-slot, settled, mixed, bit};
-ghost use Rattle.drive.specs.Areas.{AreaRead, AreaWrite};
+ghost use Rattle.drive.specs.Views.{Slot, Full, Bytes, Made, Cut, cut-by, zero-slot, settled, mixed, bit};
+ghost use Rattle.drive.specs.Areas.{AreaRead, WroteBeside, WroteThrough};
 use crate::DriveFault;
 use crate::MakeFault;
 use crate::SLOT_BYTES;
@@ -47,7 +48,8 @@ impl Area {
 
     // Changes one slot.
     fn write(&mut self, slot: u32, bytes: &[u8; SLOT_BYTES]) -> Result<(), DriveFault>
-        ensures { λ r. ⌜ AreaWrite (vec-items (now (self .entry) .slots)) slot (now (bytes .entry)) r (vec-items (now (self .exit) .slots)) ⌝ }
+        ensures beside { λ r. ⌜ ((safe : List Slot) → length safe ≡ length (vec-items (now (self .entry) .slots)) → WroteBeside (vec-items (now (self .entry) .slots)) safe slot (now (bytes .entry)) r (vec-items (now (self .exit) .slots))) ⌝ }
+        ensures through { λ r. ⌜ WroteThrough (vec-items (now (self .entry) .slots)) slot (now (bytes .entry)) r (vec-items (now (self .exit) .slots)) ⌝ }
     {
         let i = slot as usize;
         if i >= self.slots.len() {
@@ -69,17 +71,26 @@ impl Area {
         requires { ⌜ length (vec-items (now self .slots)) ≡ length (vec-items (now from .slots)) ⌝ }
         ensures { λ _. ⌜ vec-items (now (self .exit) .slots) ≡ vec-items (now (from .entry) .slots) ⌝ }
     {
-        self.slots.as_mut_slice().copy_from_slice(from.slots.as_slice());
+        self.slots
+            .as_mut_slice()
+            .copy_from_slice(from.slots.as_slice());
     }
 
     // Takes over the slots of another area whose bit is 1.
     fn keep(&mut self, from: &Area, kept: u64)
         requires { ⌜ length (vec-items (now self .slots)) ≡ length (vec-items (now from .slots)) ⌝ }
-        ensures { λ _. ⌜ vec-items (now (self .exit) .slots) ≡ mixed (bit kept) (vec-items (now (from .entry) .slots)) (vec-items (now (self .entry) .slots)) ⌝ }
+        ensures even { λ _. ⌜ length (vec-items (now (self .exit) .slots)) ≡ length (vec-items (now (from .entry) .slots)) ⌝ }
+        ensures mix { λ _. ⌜ vec-items (now (self .exit) .slots) ≡ mixed (bit kept) (vec-items (now (from .entry) .slots)) (vec-items (now (self .entry) .slots)) ⌝ }
     {
         take_over(self.slots.as_mut_slice(), from.slots.as_slice(), kept);
     }
 }
+
+// A cut leaves slots that are all safe as they are.
+fn stand(area: &Area, kept: u64)
+    ensures cuts { λ _. ⌜ Cut (settled (vec-items (now (area .entry) .slots))) (settled (vec-items (now (area .entry) .slots))) ⌝ }
+    ensures same { λ _. ⌜ settled (vec-items (now (area .entry) .slots)) ≡ cut-by (bit kept) (settled (vec-items (now (area .entry) .slots))) ⌝ }
+{}
 
 // Zeroes every slot.
 fn clear(slots: &mut [[u8; SLOT_BYTES]])

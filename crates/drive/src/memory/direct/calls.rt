@@ -8,6 +8,7 @@ use crate::Drive;
 use crate::DriveFault;
 use crate::MakeFault;
 use crate::SLOT_BYTES;
+use crate::memory::stand;
 use crate::memory::zeros;
 use std::alloc::Global;
 
@@ -41,10 +42,12 @@ pub impl Drive for DirectDrive as Direct {
 
     fn flush(&mut self) {}
 
-    fn cut(&mut self, _kept: u64)
+    fn cut(&mut self, kept: u64)
         ensures { λ _. ⌜ Cut (direct (now (self .entry))) (direct (now (self .exit))) ⌝ }
-        ensures settles { λ _. ⌜ direct (now (self .exit)) ≡ cut-by (bit «_kept») (direct (now (self .entry))) ⌝ }
-    {}
+        ensures settles { λ _. ⌜ direct (now (self .exit)) ≡ cut-by (bit kept) (direct (now (self .entry))) ⌝ }
+    {
+        stand(&self.slots, kept);
+    }
 
     fn blank(&mut self) {
         self.slots.zero();

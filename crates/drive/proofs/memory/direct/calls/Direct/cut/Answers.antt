@@ -1,9 +1,0 @@
-use Rattle.drive.specs.Views.{bit}
-use Rattle.std.specs.Of.Vec.{vec-items}
-use Rattle.drive.proofs.Drives.{cut-safe}
-use Rattle.drive.proofs.memory.direct.calls.Direct.cut.Needs as need
-
-pub returns : need.returns
-returns c =
-    let same = cut-safe (c .args .-kept) (vec-items (c .args .self .now .slots .slots)) in
-    record { 0 = record { chosen = bit (c .args .-kept); is = same }; settles = same }
