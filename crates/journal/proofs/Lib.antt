@@ -1,1 +1,4 @@
 pub mod Layouts
+pub mod Scans
+pub mod Reading
+pub mod Taking

@@ -1,1 +1,4 @@
 pub mod Layout
+pub mod Writes
+pub mod Taken
+pub mod Founds

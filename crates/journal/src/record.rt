@@ -60,6 +60,15 @@ fn get_head(bytes: &[u8]) -> Head
     }
 }
 
+impl Head {
+    // The head that a slot holds, whatever its bytes are.
+    pub fn read_from(bytes: &[u8; SLOT_BYTES]) -> Head
+        ensures { λ r. ⌜ r ≡ head-of (now (bytes .entry)) ⌝ }
+    {
+        get_head(bytes)
+    }
+}
+
 impl Record {
     // Writes the record's slot.
     pub fn write_to(&self, out: &mut [u8; SLOT_BYTES])
@@ -75,7 +84,7 @@ impl Record {
         let mut block = [0; BLOCK_BYTES];
         block.copy_from_slice(&bytes[HEAD_BYTES..HEAD_BYTES + BLOCK_BYTES]);
         Record {
-            head: get_head(bytes),
+            head: Head::read_from(bytes),
             block,
         }
     }
