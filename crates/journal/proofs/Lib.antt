@@ -2,3 +2,4 @@ pub mod Layouts
 pub mod Scans
 pub mod Reading
 pub mod Taking
+pub mod Filling

@@ -2,3 +2,4 @@ pub mod Layout
 pub mod Writes
 pub mod Taken
 pub mod Founds
+pub mod Fills

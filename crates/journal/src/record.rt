@@ -12,6 +12,8 @@ use bytes::put_u32;
 use bytes::put_u64;
 use drive::SLOT_BYTES;
 
+pub mod fill;
+
 // How many bytes a block has.
 pub const BLOCK_BYTES: usize = 512;
 
@@ -32,6 +34,15 @@ pub struct Head {
 pub struct Record {
     pub head: Head,
     pub block: [u8; BLOCK_BYTES],
+}
+
+// Why a write is refused.
+#[derive(Clone, Copy, PartialEq, Eq, Debug)]
+pub enum WriteFault {
+    TooFar,
+    BadLength,
+    BadAddress,
+    TooFewSlots,
 }
 
 // Writes a record's slot.
