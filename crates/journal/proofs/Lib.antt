@@ -3,3 +3,4 @@ pub mod Scans
 pub mod Reading
 pub mod Taking
 pub mod Filling
+pub mod Wiping

@@ -3,3 +3,4 @@ pub mod Writes
 pub mod Taken
 pub mod Founds
 pub mod Fills
+pub mod Wipes

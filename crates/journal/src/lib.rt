@@ -2,3 +2,4 @@
 pub mod found;
 pub mod record;
 pub mod span;
+pub mod wipe;
