@@ -10,8 +10,8 @@ use Rattle.std.proofs.shelf.Lists.{length-set, getD-set-same, getD-set-other}
 use Rattle.std.proofs.shelf.Tests.{cases-lt, and-parts, not-false, leb-true, ltb-false}
 use Rattle.std.proofs.shelf.Bits.{mod-below, div-add-mod', mul-le}
 use native.Mathlib.Nat.{add-mul}
-use mathlib.Core.Bool.{Bool, true, false, cond, not}
-use lib.Dec.{ltb}
+use mathlib.Core.Bool.{Bool, true, false, cond, _&&_, not}
+use lib.Dec.{eqb, leb, ltb}
 use Rattle.drive.specs.Views.{Slot, DriveView, Wrote, slot-count, zero-slot}
 use Rattle.journal.specs.Layout.{block-bytes, slot, head-of, Fits-head}
 use Rattle.journal.specs.Writes.{Holds, Stands, last-record, most-blocks, slot-at}
@@ -142,8 +142,9 @@ stand slots w a bytes e =
     let p2 = cond-none (not (whole-write bytes)) 1 _ (p1 .1) in
     let p3 = cond-none (ltb (2 ^ 32) (a + blocks-in bytes)) 2 _ (p2 .1) in
     let p4 = cond-none (ltb (length slots) (blocks-in bytes)) 3 0 (p3 .1) in
-    let whole = and-parts _ _ (not-false (whole-write bytes) (p2 .0)) in
-    let size = and-parts _ _ (whole .1) in
+    let n = blocks-in bytes in
+    let whole = and-parts (eqb (length bytes % block-bytes) 0) (leb 1 n && leb n most-blocks) (not-false (whole-write bytes) (p2 .0)) in
+    let size = and-parts (leb 1 n) (leb n most-blocks) (whole .1) in
     let one = leb-true 1 (blocks-in bytes) (size .0) in
     let few = leb-true (blocks-in bytes) most-blocks (size .1) in
     let near = ltb-false last-record w (p1 .0) in

@@ -4,3 +4,4 @@ pub mod Reading
 pub mod Taking
 pub mod Filling
 pub mod Wiping
+pub mod Examples

@@ -56,7 +56,7 @@ module _ (slots : List Slot) (blocks most from taken : ℕ) (spans : List Span) 
     more-few some = run-few slots from (taken + s .count) some (run-more slots blocks from taken (s .address) (s .count) (so-far .run) st)
 
     -- one write more
-    pub taken-more : 0 < length slots → Taken slots blocks most from (taken + s .count) (spans ++ s ∷ [])
+    taken-more : 0 < length slots → Taken slots blocks most from (taken + s .count) (spans ++ s ∷ [])
     taken-more some =
         let n = s .count in
         record {
@@ -77,8 +77,13 @@ module _ (slots : List Slot) (blocks most from taken : ℕ) (spans : List Span) 
     taken-room room some wide = omega (arith, more-few some, so-far .short, so-far .within, st .some)
 
     -- fewer slots are left
-    pub taken-less : 0 < length slots → length slots - (taken + s .count) < length slots - taken
-    taken-less some = omega (arith, more-few some, st .some)
+    pub taken-less : (count : ℕ) → count ≡ s .count → 0 < length slots → length slots - (taken + count) < length slots - taken
+    taken-less count e some = omega (arith, more-few some, st .some)
+
+    -- one write more, as the code adds it
+    pub taken-next : (count : ℕ) (after : List Span) → count ≡ s .count → after ≡ spans ++ s ∷ [] → 0 < length slots → Taken slots blocks most from (taken + count) after
+    taken-next count after e is some =
+        subst (Taken slots blocks most from (taken + count)) (sym is) (subst (λ n. Taken slots blocks most from (taken + n) (spans ++ s ∷ [])) (sym e) (taken-more some))
 
   -- nothing more is taken
   pub taken-done : ((a n : ℕ) → Stands slots blocks (from + taken) a n → most - taken < n) → Scan-most slots blocks most from spans

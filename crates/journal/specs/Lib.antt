@@ -4,3 +4,4 @@ pub mod Taken
 pub mod Founds
 pub mod Fills
 pub mod Wipes
+pub mod Example

@@ -10,18 +10,15 @@ ghost use Rattle.journal.specs.Layout.{head-of};
 ghost use Rattle.journal.specs.Writes.{Scan-most, Scanned, Scans-stand, last-record, records, slot-at};
 ghost use Rattle.journal.specs.Taken.{Begins};
 ghost use Rattle.journal.specs.Founds.{found-view};
+ghost use Rattle.journal.specs.Example.{Torn-log};
+use crate::LAST_RECORD;
+use crate::MOST_BLOCKS;
 use crate::found::Found;
 use crate::record::Head;
 use crate::span::ScanFault;
 use crate::span::Span;
 use drive::Drive;
 use drive::SLOT_BYTES;
-
-// The last record from which a scan may start.
-pub const LAST_RECORD: u64 = 1 << 41;
-
-// The most blocks that a write covers.
-pub const MOST_BLOCKS: u16 = 8;
 
 // Whether a head begins a write at a record that fits the volume and the records left to take.
 fn begins(head: &Head, at: u64, blocks: u32, left: u64) -> bool
@@ -137,6 +134,13 @@ pub fn scan<D: Drive>(
 // What a scan finds is settled by the slots, has no more records than there are slots, and a limit of that many is none.
 pub fn one_scan_each() -> u8
     ensures { λ _. ⌜ Scans-stand ⌝ }
+{
+    0
+}
+
+// A log that ends in half a write: the scan takes the whole write before it, and nothing from there on.
+pub fn torn_log() -> u8
+    ensures { λ _. ⌜ Torn-log ⌝ }
 {
     0
 }

@@ -1,14 +1,10 @@
-use mathlib.Core.Path.{_≡_, sym, ap, subst, _∙_}
-use mathlib.Core.List.{_++_, _∷_, []}
-use Prim.Native.Nat.{_+_, _-_, _<_}
+use mathlib.Core.Path.{sym, ap, _∙_}
+use Prim.Native.Nat.{_+_, _-_}
 use native.Mathlib.Omega.{arith}
-use lib.ListN.{length}
 use Rattle.std.specs.Of.Vec.{vec-items}
 use Rattle.journal.specs.Layout.{head-of}
 use Rattle.journal.specs.Writes.{slot-at}
-use Rattle.journal.specs.declared.record.Head.{Head}
-use Rattle.journal.specs.declared.span.Span.{Span}
-use Rattle.journal.proofs.Taking.{Taken, taken-more, taken-room, taken-less, taken-done, not-begun, not-going, gone}
+use Rattle.journal.proofs.Taking.{taken-next, taken-room, taken-less, taken-done, not-begun, not-going, gone}
 use Rattle.journal.proofs.found.scan.take_writes.Needs as need
 
 pub add-requires : need.add-requires
@@ -30,9 +26,8 @@ writes-less g c =
     let h = c .head-at-first .result in
     let begun = c .if-not-begins .ensures tt in
     let stands = gone slots at h (c .head-at-first .ensures) (c .args .blocks) (c .args .most - c .writes .taken) (c .loop-i .i) begun (c .loop-i .inv) (c .loop-i-test .left) in
-    let less = taken-less slots (c .args .blocks) (c .args .most) (c .args .from) (c .writes .taken) (vec-items (c .writes .found .spans)) (c .writes .inv .0)
-    record { address = h .address; count = h .count } stands (begun .fits) some in
-    subst (λ n. length slots - (c .writes .taken + n) < length slots - c .writes .taken) (sym (c .from-taken .ensures)) less
+    taken-less slots (c .args .blocks) (c .args .most) (c .args .from) (c .writes .taken) (vec-items (c .writes .found .spans)) (c .writes .inv .0)
+    record { address = h .address; count = h .count } stands (begun .fits) (c .from-taken .result) (c .from-taken .ensures) some
 
 pub writes-again : need.writes-again
 writes-again g c =
@@ -40,15 +35,12 @@ writes-again g c =
     let some = g .D·Drive·met .shaped (c .args .drive .now) .some in
     let at = c .args .from + c .writes .taken in
     let h = c .head-at-first .result in
-    let s : Span = record { address = h .address; count = h .count } in
     let begun = c .if-not-begins .ensures tt in
-    let stands = gone slots at h (c .head-at-first .ensures) (c .args .blocks) (c .args .most - c .writes .taken) (c .loop-i .i) begun (c .loop-i .inv) (c .loop-i-test .left) in
-    let more = taken-more slots (c .args .blocks) (c .args .most) (c .args .from) (c .writes .taken) (vec-items (c .writes .found .spans)) (c .writes .inv .0)
-    s stands (begun .fits) some in
-    let more2 = subst (λ n. Taken slots (c .args .blocks) (c .args .most) (c .args .from) (c .writes .taken + n) (vec-items (c .writes .found .spans) ++ s ∷ [])) (sym (c .from-taken .ensures)) more in
-    let spans = ap (λ v. v .spans) (c .add .ensures) in
-    let room = ap (λ v. v .room) (c .add .ensures) in
-    (subst (Taken slots (c .args .blocks) (c .args .most) (c .args .from) (c .writes .taken + c .from-taken .result)) (sym spans) more2, room ∙ c .writes .inv .1)
+    let stands = gone slots at h (c .head-at-first .ensures) (c .args .blocks) (c .args .most - c .writes .taken) (c .loop-i .i) begun (c .loop-i .inv) (c .loop-i-test .left) in (
+      taken-next slots (c .args .blocks) (c .args .most) (c .args .from) (c .writes .taken) (vec-items (c .writes .found .spans)) (c .writes .inv .0)
+          record { address = h .address; count = h .count } stands (begun .fits) (c .from-taken .result) _ (c .from-taken .ensures) (ap (λ v. v .spans) (c .add .ensures)) some,
+      ap (λ v. v .room) (c .add .ensures) ∙ c .writes .inv .1,
+    )
 
 pub returns-then-not-begins : need.returns-then-not-begins
 returns-then-not-begins g c =
