@@ -77,3 +77,16 @@ mix-done d i from to past even =
     let b = take-all i to (omega arith) in
     let c = append-nil to in
     cc
+
+-- a choice between equals
+cond-same : {X : Type 0} (b : Bool) (x : X) → x ≡ cond b x x
+cond-same true x = refl
+cond-same false x = refl
+
+-- each slot of a mix, by its choice
+pub getD-mixed : (f : ℕ → Bool) (xs ys : List Slot) (k : ℕ) (d : Slot) → length ys ≡ length xs → getD (mixed f xs ys) k d ≡ cond (f k) (getD xs k d) (getD ys k d)
+getD-mixed f [] [] k d e = cond-same (f k) d
+getD-mixed f [] (y ∷ ys) k d e = absurd (omega arith)
+getD-mixed f (x ∷ xs) [] k d e = absurd (omega arith)
+getD-mixed f (x ∷ xs) (y ∷ ys) zero d e = refl
+getD-mixed f (x ∷ xs) (y ∷ ys) (suc k) d e = getD-mixed (λ j. f (suc j)) xs ys k d (omega arith)

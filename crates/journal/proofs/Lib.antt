@@ -5,3 +5,4 @@ pub mod Taking
 pub mod Filling
 pub mod Wiping
 pub mod Examples
+pub mod Keeps
