@@ -1,0 +1,7 @@
+use borrow.Author.Needs.{needs}
+use Rattle.bytes.specs.Fields.{le}
+use Rattle.bytes.proofs.bytes_u16.Needs as need
+
+pub returns : need.returns
+unfolding le
+returns c = search needs
