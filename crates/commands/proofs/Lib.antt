@@ -1,0 +1,5 @@
+pub mod Numbered
+pub mod Figures
+pub mod Listings
+pub mod Turns
+pub mod Cuts

@@ -1,0 +1,5 @@
+pub mod Numbers
+pub mod Grammar
+pub mod Values
+pub mod Elements
+pub mod Tokens
