@@ -3,3 +3,5 @@ pub mod Grammar
 pub mod Values
 pub mod Elements
 pub mod Tokens
+pub mod Calls
+pub mod Reading

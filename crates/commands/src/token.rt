@@ -8,6 +8,8 @@ ghost use Rattle.commands.specs.Grammar.{letter};
 ghost use Rattle.commands.specs.Values.{values};
 ghost use Rattle.commands.specs.Elements.{elements, listIn};
 ghost use Rattle.commands.specs.Tokens.{part, run, cut, cutOpened, Taken};
+pub mod reader;
+
 use crate::is_digit;
 use crate::list::ByteList;
 use crate::numeral;
