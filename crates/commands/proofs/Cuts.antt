@@ -73,7 +73,10 @@ opened-is s p rest e = go (letter (getD s 0 0)) refl e where
       let w = list-is s (x .0) (x .1) q in
       begins-by (40 ∷ s) (bytes (x .0)) p (x .1) rest (record {
         is = ap (λ l. 40 ∷ l) (w .0 ∙ listed-end (x .0) (41 ∷ x .1) ∙ sym (append-assoc (listed (x .0) []) (41 ∷ []) (x .1)) ∙ ap (λ l. l ++ x .1) (sym (listed-end (x .0) (41 ∷ []))));
-        fit = w .1; ends = tt }) f
+        fit = w .1;
+        ends = tt;
+      }) f
+
   go : (b : Bool) → letter (getD s 0 0) ≡ b → cond b (Some (opening, s)) (mapped {U = Part × List ℕ} (λ x. (bytes (x .0), x .1)) (listIn s)) ≡ Some (p, rest) → Begins (40 ∷ s) p rest
   go true h f = begins-by (40 ∷ s) opening p s rest (record { is = refl; fit = tt; ends = h }) f
   go false h f = many (listIn s) refl f

@@ -28,18 +28,18 @@ decimal-next n d p q h =
 
 -- a reader that takes one digit after another takes a number whole
 pub reads-decimal : {R : Type 0} (begin : List ℕ → R) (on : ℕ → List ℕ → R) (most : ℕ) → most < 2 ^ 32
-  → ((d : ℕ) (s : List ℕ) → d < 10 → begin ((48 + d) ∷ s) ≡ on d s)
-  → ((n d : ℕ) (s : List ℕ) → 0 < n → d < 10 → 10 * n + d ≤ most → on n ((48 + d) ∷ s) ≡ on (10 * n + d) s)
-  → (m : ℕ) → m ≤ most → (s : List ℕ) → begin (decimal m ++ s) ≡ on m s
+    → ((d : ℕ) (s : List ℕ) → d < 10 → begin ((48 + d) ∷ s) ≡ on d s)
+    → ((n d : ℕ) (s : List ℕ) → 0 < n → d < 10 → 10 * n + d ≤ most → on n ((48 + d) ∷ s) ≡ on (10 * n + d) s)
+    → (m : ℕ) → m ≤ most → (s : List ℕ) → begin (decimal m ++ s) ≡ on m s
 reads-decimal begin on most low one more m h s =
     decimal-by-steps (λ k ds. k ≤ most → (r : List ℕ) → begin (ds ++ r) ≡ on k r)
     (λ n p _ r. one n r p)
     (λ n ds p rec q r.
-      let e : 10 * (n / 10) + n % 10 ≡ n = omega arith in
-      ap begin (append-assoc ds ((48 + n % 10) ∷ []) r)
-      ∙ rec (omega arith) ((48 + n % 10) ∷ r)
-      ∙ more (n / 10) (n % 10) r (omega arith) (omega arith) (omega arith)
-      ∙ ap (λ k. on k r) e)
+    let e : 10 * (n / 10) + n % 10 ≡ n = omega arith in
+    ap begin (append-assoc ds ((48 + n % 10) ∷ []) r)
+    ∙ rec (omega arith) ((48 + n % 10) ∷ r)
+    ∙ more (n / 10) (n % 10) r (omega arith) (omega arith) (omega arith)
+    ∙ ap (λ k. on k r) e)
     m (omega arith) h s
 
 -- nothing that follows is a digit
@@ -76,11 +76,15 @@ module _ (most : ℕ) (small : most < 2 ^ 32) where
         let w : decimal (10 * n + (c - 48)) ≡ decimal n ++ (48 + (c - 48)) ∷ [] = decimal-next n (c - 48) (omega arith) (omega (arith, g .1)) (omega arith) in
         record {
           is = sym (ap (λ x. decimal n ++ x ∷ cs) same) ∙ sym (append-assoc (decimal n) ((48 + (c - 48)) ∷ []) cs) ∙ ap (λ l. l ++ cs) (sym w) ∙ done .is;
-          low = done .low; stops = done .stops }
+          low = done .low;
+          stops = done .stops;
+        }
     room rec false l d z f = none-some _ f
+
     zeros : (10 * n + (c - 48) ≤ most → numberOn most (10 * n + (c - 48)) cs ≡ Some (m, r) → Number most (decimal (10 * n + (c - 48)) ++ cs) m r) → (b : Bool) → eqb n 0 ≡ b → digit c ≡ true → cond b None (cond (leb (10 * n + (c - 48)) most) (numberOn most (10 * n + (c - 48)) cs) None) ≡ Some (m, r) → Number most (decimal n ++ c ∷ cs) m r
     zeros rec true z d f = none-some _ f
     zeros rec false z d f = room rec (leb (10 * n + (c - 48)) most) refl d (eqb-false _ _ z) f
+
     digits : (10 * n + (c - 48) ≤ most → numberOn most (10 * n + (c - 48)) cs ≡ Some (m, r) → Number most (decimal (10 * n + (c - 48)) ++ cs) m r) → (b : Bool) → digit c ≡ b → cond b (cond (eqb n 0) None (cond (leb (10 * n + (c - 48)) most) (numberOn most (10 * n + (c - 48)) cs) None)) (Some (n, c ∷ cs)) ≡ Some (m, r) → Number most (decimal n ++ c ∷ cs) m r
     digits rec true d f = zeros rec (eqb n 0) refl d f
     digits rec false d f = number-ends n (c ∷ cs) m r h d f

@@ -3,3 +3,4 @@ pub mod Figures
 pub mod Listings
 pub mod Turns
 pub mod Cuts
+pub mod Readings

@@ -105,7 +105,8 @@ one-element s b t r w h e =
       is = w .is ∙ ap (λ l. decimal b ++ l) p;
       small = bytes-more b [] (w .low) refl;
       some = omega arith;
-      closed = ap (λ l. getD l 0 0) (sym p) ∙ h }
+      closed = ap (λ l. getD l 0 0) (sym p) ∙ h;
+    }
 
 more-elements : (s : List ℕ) (b : ℕ) (t r : List ℕ) → Number 255 s b t → getD t 0 0 ≡ 32 → Elements (drop 1 t) r → Elements s r
 more-elements s b t r w h rec =
@@ -114,7 +115,8 @@ more-elements s b t r w h rec =
       is = w .is ∙ ap (λ l. decimal b ++ l) (head-rest t 32 (omega arith) h ∙ ap (λ l. 32 ∷ l) (rec .is) ∙ sym (spaced-listed (rec .vs) r (rec .some)));
       small = bytes-more b (rec .vs) (w .low) (rec .small);
       some = omega arith;
-      closed = rec .closed }
+      closed = rec .closed;
+    }
 
 pub elements-is : (k : ℕ) (s r : List ℕ) → elements k s ≡ Some r → Elements s r
 elements-is zero s r e = none-some _ e
@@ -122,11 +124,13 @@ elements-is (suc k) s r e = go (λ t f. elements-is k (drop 1 t) r f) (numberIn 
   spaces : ((t : List ℕ) → elements k (drop 1 t) ≡ Some r → Elements (drop 1 t) r) → (b : ℕ) (t : List ℕ) → Number 255 s b t → (x : Bool) → eqb (getD t 0 0) 32 ≡ x → cond x (elements k (drop 1 t)) None ≡ Some r → Elements s r
   spaces rec b t w true h f = more-elements s b t r w (eqb-true _ _ h) (rec t f)
   spaces rec b t w false h f = none-some _ f
+
   closes : ((t : List ℕ) → elements k (drop 1 t) ≡ Some r → Elements (drop 1 t) r) → (b : ℕ) (t : List ℕ) → Number 255 s b t → (x : Bool) → eqb (getD t 0 0) 41 ≡ x → cond x (Some t) (cond (eqb (getD t 0 0) 32) (elements k (drop 1 t)) None) ≡ Some r → Elements s r
   closes rec b t w true h f = one-element s b t r w (eqb-true _ _ h) f
   closes rec b t w false h f = spaces rec b t w (eqb (getD t 0 0) 32) refl f
+
   go : ((t : List ℕ) → elements k (drop 1 t) ≡ Some r → Elements (drop 1 t) r) → (o : Option (ℕ × List ℕ)) → numberIn 255 s ≡ o
-    → bind o (λ p. cond (eqb (getD (p .1) 0 0) 41) (Some (p .1)) (cond (eqb (getD (p .1) 0 0) 32) (elements k (drop 1 (p .1))) None)) ≡ Some r → Elements s r
+      → bind o (λ p. cond (eqb (getD (p .1) 0 0) 41) (Some (p .1)) (cond (eqb (getD (p .1) 0 0) 32) (elements k (drop 1 (p .1))) None)) ≡ Some r → Elements s r
   go rec None q f = none-some _ f
   go rec (Some p) q f = closes rec (p .0) (p .1) (number-is 255 (omega arith) (omega arith) s (p .0) (p .1) q) (eqb (getD (p .1) 0 0) 41) refl f
 
@@ -175,6 +179,7 @@ list-is s vs r e = empty (eqb (getD s 0 0) 41) refl e where
   many (Some p) q f =
       let x = some-same _ vs _ r f in
       (front-whole s p q ∙ ap (λ l. listed l (41 ∷ drop 1 p)) (x .0) ∙ ap (λ l. listed vs (41 ∷ l)) (x .1), ap bytesOnly (sym (x .0)) ∙ front-small s p q)
+
   empty : (b : Bool) → eqb (getD s 0 0) 41 ≡ b → cond b (Some ([], drop 1 s)) (mapped (valued s) (elements (length s) s)) ≡ Some (vs, r) → (s ≡ listed vs (41 ∷ r)) × (bytesOnly vs ≡ true)
   empty true h f =
       let x = some-same [] vs (drop 1 s) r f in
@@ -205,11 +210,11 @@ list-back (b ∷ bs) r e =
     ∙ ap (mapped (valued s)) q
     ∙ ap (λ l. Some (l, r)) same
   where
-  front-end : (vs end : List ℕ) → front (listed vs end) end ≡ listed vs []
-  front-end vs end =
-      let whole = listed-end vs end in
-      let long : length (listed vs end) - length end ≡ length (listed vs []) = omega (arith, ap length whole, length-append (listed vs []) end) in
-      ap (λ k. take k (listed vs end)) long ∙ ap (take (length (listed vs []))) whole ∙ take-at (listed vs []) end _ refl
+    front-end : (vs end : List ℕ) → front (listed vs end) end ≡ listed vs []
+    front-end vs end =
+        let whole = listed-end vs end in
+        let long : length (listed vs end) - length end ≡ length (listed vs []) = omega (arith, ap length whole, length-append (listed vs []) end) in
+        ap (λ k. take k (listed vs end)) long ∙ ap (take (length (listed vs []))) whole ∙ take-at (listed vs []) end _ refl
 
 -- a list that is closed at n
 pub list-closed : (s : List ℕ) (n : ℕ) → n < length s → (getD s 0 0 ≡ 41 → ⊥) → Some (drop n s) ≡ elements (length s) s → Some (values (take (n - 0) s), drop (n + 1) s) ≡ listIn s
@@ -220,3 +225,8 @@ list-closed s n h apart e =
     ∙ ap (λ l. Some (values (front s (drop n s)), l)) (sym (drop-drop 1 n s))
     ∙ ap (mapped (valued s)) e
     ∙ ap (λ b. cond b (Some ([], drop 1 s)) (mapped (valued s) (elements (length s) s))) (sym (ne-eqb _ _ apart))
+
+pub list-whole : (s : List ℕ) (n : ℕ) → n < length s → Some (drop n s) ≡ elements (length s) s → Listing (take (n - 0) s)
+list-whole s n h e =
+    let z : n - 0 ≡ n = omega arith in
+    subst Listing (front-drop s n (omega arith) ∙ ap (λ k. take k s) (sym z)) (front-listing s (drop n s) (sym e))

@@ -16,7 +16,7 @@ use Rattle.commands.specs.declared.call.Fate.the-variants.{Kept, Lost}
 use Rattle.commands.specs.declared.call.Call.{Call}
 use Rattle.commands.specs.declared.call.Call.the-variants as call
 use Rattle.commands.specs.Grammar.{spaced, Part, word, number, bytes, spelt, Fit}
-use Rattle.commands.specs.Values.{values}
+use Rattle.commands.specs.Values.{values, Listing}
 
 -- The words.
 abbrev pub verbWord : Verb → List ℕ
@@ -73,6 +73,21 @@ asked call.Reap = reap
 asked (call.CutKept s d) = cut-kept s d
 asked (call.CutLost s) = cut-lost s
 asked call.Mount = mount
+
+-- A call's list has the text of its values.
+abbrev pub Whole : Call → Type 0
+Whole (call.Make b n s d) = Unit {0}
+Whole (call.Write a fill) = Listing (fill .text .now)
+Whole (call.Read a n) = Unit {0}
+Whole call.Flush = Unit {0}
+Whole call.Seal = Unit {0}
+Whole call.Poll = Unit {0}
+Whole call.Checkpoint = Unit {0}
+Whole (call.Clean o) = Unit {0}
+Whole call.Reap = Unit {0}
+Whole (call.CutKept s d) = Unit {0}
+Whole (call.CutLost s) = Unit {0}
+Whole call.Mount = Unit {0}
 
 -- The table: the word of a call, and its items.
 abbrev pub verb : Asked → Verb

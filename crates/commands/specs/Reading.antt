@@ -20,7 +20,9 @@ use Rattle.commands.specs.declared.call.Fate.{Fate}
 use Rattle.commands.specs.declared.call.Fate.the-variants.{Kept, Lost}
 use Rattle.commands.specs.Grammar.{Part, opening, closing, gap, word, number, bytes}
 use Rattle.commands.specs.Tokens.{cut}
-use Rattle.commands.specs.Calls.{verbWord, storeWord, driveWord, fateWord, Asked, make, write, read, flush, seal, poll, checkpoint, clean, reap, cut-kept, cut-lost, mount}
+use Rattle.commands.specs.declared.call.Call.{Call}
+use Rattle.commands.specs.declared.call.Bad.{Bad}
+use Rattle.commands.specs.Calls.{asked, items, written, AllFit, Asks, Whole, verbWord, storeWord, driveWord, fateWord, Asked, make, write, read, flush, seal, poll, checkpoint, clean, reap, cut-kept, cut-lost, mount}
 
 -- One step after another.
 abbrev pub chain : {A B : Type 0} → Result A ℕ → (A → Result B ℕ) → Result B ℕ
@@ -86,17 +88,30 @@ theWord spell vs (word w) = named spell vs w
 theWord spell vs (number n) = None
 theWord spell vs (bytes bs) = None
 
+-- All verbs, kinds and fates.
+abbrev pub verbs : List Verb
+verbs = Make ∷ Write ∷ Read ∷ Flush ∷ Seal ∷ Poll ∷ Checkpoint ∷ Clean ∷ Reap ∷ Cut ∷ Mount ∷ []
+
+abbrev pub stores : List StoreKind
+stores = Paged ∷ Packed ∷ []
+
+abbrev pub drives : List DriveKind
+drives = Buffered ∷ Direct ∷ []
+
+abbrev pub fates : List Fate
+fates = Kept ∷ Lost ∷ []
+
 abbrev pub theVerb : Part → Option Verb
-theVerb = theWord verbWord (Make ∷ Write ∷ Read ∷ Flush ∷ Seal ∷ Poll ∷ Checkpoint ∷ Clean ∷ Reap ∷ Cut ∷ Mount ∷ [])
+theVerb = theWord verbWord verbs
 
 abbrev pub theStore : Part → Option StoreKind
-theStore = theWord storeWord (Paged ∷ Packed ∷ [])
+theStore = theWord storeWord stores
 
 abbrev pub theDrive : Part → Option DriveKind
-theDrive = theWord driveWord (Buffered ∷ Direct ∷ [])
+theDrive = theWord driveWord drives
 
 abbrev pub theFate : Part → Option Fate
-theFate = theWord fateWord (Kept ∷ Lost ∷ [])
+theFate = theWord fateWord fates
 
 -- The part that was cut off, if it is of the kind that is wanted; else what was left before it.
 abbrev pub picked : {A : Type 0} → ℕ → Option A → List ℕ → Result (A × List ℕ) ℕ
@@ -154,3 +169,13 @@ leftOf (Err n) = n
 -- Where the first part stands that does not fit its place; of a line of more than 255 bytes, where these end.
 abbrev pub misfit : List ℕ → ℕ
 misfit line = cond (leb (length line) 255) (length line - leftOf (reading line)) 255
+
+-- What is read from a line of any length: the call that is written so, or none, and how much is left where a part does not fit.
+abbrev pub Found : List ℕ → Result Call ℕ → Type 0
+Found line (Ok c) = (line ≡ written (asked c)) × AllFit (items (asked c)) × Whole c
+Found line (Err n) = ((a : Asked) → line ≡ written a → AllFit (items a) → ⊥) × (n ≡ leftOf (reading line))
+
+-- What is read from a line: the call that the line asks for; or none, exactly where it asks for none, and where the first part stands that does not fit.
+abbrev pub Parsed : List ℕ → Result Call Bad → Type 0
+Parsed line (Ok c) = Asks line (asked c) × Whole c
+Parsed line (Err b) = ((a : Asked) → Asks line a → ⊥) × (b .at ≡ misfit line)

@@ -12,7 +12,7 @@ use Rattle.commands.specs.declared.token.Token.{Token}
 use Rattle.commands.specs.declared.token.Token.the-variants.{Open, Close, Space, Word, Number, List as Bytes}
 use Rattle.commands.specs.Numbers.{digit, numberIn}
 use Rattle.commands.specs.Grammar.{Part, opening, closing, gap, word, number, bytes, letter, Begins}
-use Rattle.commands.specs.Values.{values}
+use Rattle.commands.specs.Values.{values, Listing}
 use Rattle.commands.specs.Elements.{listIn}
 
 -- The part of the line that a token is.
@@ -23,6 +23,15 @@ part Space = gap
 part (Word w) = word (w .now)
 part (Number n) = number n
 part (Bytes l) = bytes (values (l .text .now))
+
+-- A list's text is that of its values, so that the text itself stands in the line.
+abbrev pub Whole : Token → Type 0
+Whole Open = Unit {0}
+Whole Close = Unit {0}
+Whole Space = Unit {0}
+Whole (Word w) = Unit {0}
+Whole (Number n) = Unit {0}
+Whole (Bytes l) = Listing (l .text .now)
 
 -- A part is taken if the line begins with it, and the rest is left. None is taken exactly where the line begins with no part, and the line is left.
 abbrev pub Taken : List ℕ → Option Part → List ℕ → Type 0

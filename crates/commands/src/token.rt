@@ -5,9 +5,10 @@ ghost use lib.ListN.{length, drop};
 ghost use Rattle.std.specs.Options.{mapped, Cases as BySome};
 ghost use Rattle.std.specs.Slices.{found};
 ghost use Rattle.commands.specs.Grammar.{letter};
-ghost use Rattle.commands.specs.Values.{values};
+ghost use Rattle.commands.specs.Values.{values, Listing};
 ghost use Rattle.commands.specs.Elements.{elements, listIn};
-ghost use Rattle.commands.specs.Tokens.{part, run, cut, cutOpened, Taken};
+ghost use Rattle.commands.specs.Tokens.{part, run, cut, cutOpened, Taken, Whole};
+
 pub mod reader;
 
 use crate::is_digit;
@@ -73,6 +74,7 @@ fn list_end(s: &[u8]) -> Option<usize>
 fn list_in(s: &[u8]) -> Option<(ByteList<'_>, usize)>
     ensures value { λ r. ⌜ mapped (λ p. (values (p .0 .text .now), drop (p .1) (now (s .entry)))) r ≡ listIn (now (s .entry)) ⌝ }
     ensures inside { λ r. ⌜ found r (λ p. p .1 ≤ length (now (s .entry))) ⌝ }
+    ensures whole { λ r. ⌜ found r (λ p. Listing (p .0 .text .now)) ⌝ }
 {
     if s.is_empty() {
         return None;
@@ -90,6 +92,7 @@ fn list_in(s: &[u8]) -> Option<(ByteList<'_>, usize)>
 fn opened(s: &[u8]) -> Option<(Token<'_>, usize)>
     ensures value { λ r. ⌜ mapped (λ p. (part (p .0), drop (p .1) (now (s .entry)))) r ≡ cutOpened (now (s .entry)) ⌝ }
     ensures inside { λ r. ⌜ found r (λ p. p .1 ≤ length (now (s .entry))) ⌝ }
+    ensures whole { λ r. ⌜ found r (λ p. Whole (p .0)) ⌝ }
 {
     if s.is_empty() {
         return None;
@@ -105,6 +108,7 @@ fn opened(s: &[u8]) -> Option<(Token<'_>, usize)>
 fn first_token(line: &[u8]) -> Option<(Token<'_>, usize)>
     ensures value { λ r. ⌜ mapped (λ p. (part (p .0), drop (p .1) (now (line .entry)))) r ≡ cut (now (line .entry)) ⌝ }
     ensures inside { λ r. ⌜ found r (λ p. p .1 ≤ length (now (line .entry))) ⌝ }
+    ensures whole { λ r. ⌜ found r (λ p. Whole (p .0)) ⌝ }
 {
     if line.is_empty() {
         return None;
@@ -150,6 +154,7 @@ impl<'a> Lexer<'a> {
     fn advance(&mut self) -> Option<Token<'a>>
         ensures value { λ r. ⌜ mapped (λ t. (part t, now (self .exit) .rest .now)) r ≡ cut (now (self .entry) .rest .now) ⌝ }
         ensures stays { λ r. ⌜ BySome r (now (self .exit) .rest .now ≡ now (self .entry) .rest .now) (λ _. Unit {0}) ⌝ }
+        ensures whole { λ r. ⌜ found r Whole ⌝ }
     {
         let rest = self.rest;
         let Some((found, n)) = first_token(rest) else {
@@ -161,7 +166,8 @@ impl<'a> Lexer<'a> {
 
     // Cuts the next token off the line: the part that the line begins with, and none where it begins with none.
     pub fn next(&mut self) -> Option<Token<'a>>
-        ensures { λ r. ⌜ Taken (now (self .entry) .rest .now) (mapped part r) (now (self .exit) .rest .now) ⌝ }
+        ensures taken { λ r. ⌜ Taken (now (self .entry) .rest .now) (mapped part r) (now (self .exit) .rest .now) ⌝ }
+        ensures whole { λ r. ⌜ found r Whole ⌝ }
     {
         self.advance()
     }

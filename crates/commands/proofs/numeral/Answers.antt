@@ -16,7 +16,9 @@ loop-i-again c = search (needs, number-turn)
 
 pub returns : need.returns
 returns c = record {
-    value = elim (c .loop-i-test .came) [
-      then-loop-i-test·else-is-digit w ↦ sym (number-stop (c .args .most) (c .loop-i .n) (c .args .s .now) (c .loop-i .i) (omega arith) (search needs)) ∙ c .loop-i .inv .3
-      | else-loop-i-test w ↦ sym (number-end (c .args .most) (c .loop-i .n) (c .args .s .now) (c .loop-i .i) (omega arith)) ∙ c .loop-i .inv .3 ];
-    inside = search needs }
+  value = elim (c .loop-i-test .came) [
+    | then-loop-i-test·else-is-digit w ↦ sym (number-stop (c .args .most) (c .loop-i .n) (c .args .s .now) (c .loop-i .i) (omega arith) (search needs)) ∙ c .loop-i .inv .3
+    | else-loop-i-test w ↦ sym (number-end (c .args .most) (c .loop-i .n) (c .args .s .now) (c .loop-i .i) (omega arith)) ∙ c .loop-i .inv .3
+  ];
+  inside = search needs;
+}

@@ -2,11 +2,12 @@
 ghost use mathlib.Core.Path.{_≡_};
 ghost use Prim.Native.Nat.{ℕ};
 ghost use lib.ListN.{length};
+ghost use Rattle.std.specs.Vec.{made};
 ghost use Rattle.std.specs.shelf.Text.{sameBytes};
 ghost use Rattle.commands.specs.Grammar.{word};
-ghost use Rattle.commands.specs.Calls.{asked};
-ghost use Rattle.commands.specs.Values.{values};
-ghost use Rattle.commands.specs.Reading.{turned, at as partAt, item as itemAt, theOpening, theClosing, theGap, theNumber, theBytes, theVerb, theStore, theDrive, theFate, itemsOf, cutItems, reading};
+ghost use Rattle.commands.specs.Calls.{asked, Whole};
+ghost use Rattle.commands.specs.Values.{values, Listing};
+ghost use Rattle.commands.specs.Reading.{turned, at as partAt, item as itemAt, theOpening, theClosing, theGap, theNumber, theBytes, theVerb, theStore, theDrive, theFate, itemsOf, cutItems, reading, Found, Parsed};
 use crate::call::Bad;
 use crate::call::Call;
 use crate::call::DriveKind;
@@ -142,7 +143,8 @@ impl<'a> Lexer<'a> {
 
     // A list of bytes, after one space.
     fn list(&mut self) -> Result<ByteList<'a>, usize>
-        ensures { λ r. ⌜ turned (λ x. (values (x .text .now), now (self .exit) .rest .now)) r ≡ itemAt theBytes (now (self .entry) .rest .now) ⌝ }
+        ensures value { λ r. ⌜ turned (λ x. (values (x .text .now), now (self .exit) .rest .now)) r ≡ itemAt theBytes (now (self .entry) .rest .now) ⌝ }
+        ensures whole { λ r. ⌜ made r (λ l. Listing (l .text .now)) ⌝ }
     {
         self.gap()?;
         let left = self.rest.len();
@@ -202,7 +204,8 @@ impl<'a> Lexer<'a> {
 
 // The items of a cut.
 fn cut_items<'a>(fate: Fate, line: &mut Lexer<'a>) -> Result<Call<'a>, usize>
-    ensures { λ r. ⌜ turned (λ c. (asked c, now (line .exit) .rest .now)) r ≡ cutItems fate (now (line .entry) .rest .now) ⌝ }
+    ensures value { λ r. ⌜ turned (λ c. (asked c, now (line .exit) .rest .now)) r ≡ cutItems fate (now (line .entry) .rest .now) ⌝ }
+    ensures whole { λ r. ⌜ made r Whole ⌝ }
 {
     let store = line.number()?;
     match fate {
@@ -216,7 +219,8 @@ fn cut_items<'a>(fate: Fate, line: &mut Lexer<'a>) -> Result<Call<'a>, usize>
 
 // The items that follow a word.
 fn items_of<'a>(verb: Verb, line: &mut Lexer<'a>) -> Result<Call<'a>, usize>
-    ensures { λ r. ⌜ turned (λ c. (asked c, now (line .exit) .rest .now)) r ≡ itemsOf verb (now (line .entry) .rest .now) ⌝ }
+    ensures value { λ r. ⌜ turned (λ c. (asked c, now (line .exit) .rest .now)) r ≡ itemsOf verb (now (line .entry) .rest .now) ⌝ }
+    ensures whole { λ r. ⌜ made r Whole ⌝ }
 {
     match verb {
         Verb::Make => {
@@ -260,7 +264,8 @@ fn items_of<'a>(verb: Verb, line: &mut Lexer<'a>) -> Result<Call<'a>, usize>
 
 // The call that the whole line asks for, or how much of the line is left where a part does not fit.
 fn call_in(line: &[u8]) -> Result<Call<'_>, usize>
-    ensures { λ r. ⌜ turned asked r ≡ reading (now (line .entry)) ⌝ }
+    ensures value { λ r. ⌜ turned asked r ≡ reading (now (line .entry)) ⌝ }
+    ensures whole { λ r. ⌜ made r Whole ⌝ }
 {
     let mut lexer = Lexer::new(line);
     lexer.open()?;
@@ -271,5 +276,27 @@ fn call_in(line: &[u8]) -> Result<Call<'_>, usize>
         Ok(call)
     } else {
         Err(lexer.rest.len())
+    }
+}
+
+// The call that is written as the line is, of whatever length.
+fn found_in(line: &[u8]) -> Result<Call<'_>, usize>
+    ensures { λ r. ⌜ Found (now (line .entry)) r ⌝ }
+{
+    call_in(line)
+}
+
+// The call that the line asks for; its newline is no part of it.
+pub fn parse(line: &[u8]) -> Result<Call<'_>, Bad>
+    ensures { λ r. ⌜ Parsed (now (line .entry)) r ⌝ }
+{
+    if line.len() > 255 {
+        return Err(Bad { at: 255 });
+    }
+    match found_in(line) {
+        Ok(call) => Ok(call),
+        Err(left) => Err(Bad {
+            at: line.len().saturating_sub(left),
+        }),
     }
 }
