@@ -46,34 +46,26 @@ spaced-listed (b ∷ bs) r h = refl
 take-back : (d : ℕ) → 48 + d - 48 ≡ d
 take-back d = omega arith
 
-values-next : (n d : ℕ) (s : List ℕ) → d < 10 → valuesOn n ((48 + d) ∷ s) ≡ valuesOn (10 * n + d) s
+values-next : (n d : ℕ) (s : List ℕ) → d < 10 → valuesOn (Some n) ((48 + d) ∷ s) ≡ valuesOn (Some (10 * n + d)) s
 values-next n d s h =
     let apart : eqb (48 + d) 32 ≡ false = ne-eqb (48 + d) 32 (λ e. omega arith) in
-    ap (λ b. cond b (n ∷ valuesOn 0 s) (valuesOn (10 * n + (48 + d - 48)) s)) apart ∙ ap (λ k. valuesOn (10 * n + k) s) (take-back d)
+    ap (λ b. cond b (n ∷ valuesOn None s) (valuesOn (Some (10 * n + (48 + d - 48))) s)) apart ∙ ap (λ k. valuesOn (Some (10 * n + k)) s) (take-back d)
 
-values-one : (d : ℕ) (s : List ℕ) → d < 10 → valuesOn 0 ((48 + d) ∷ s) ≡ valuesOn d s
-values-one d s h = let e : 10 * 0 + d ≡ d = omega arith in values-next 0 d s h ∙ ap (λ k. valuesOn k s) e
+values-one : (d : ℕ) (s : List ℕ) → d < 10 → valuesOn None ((48 + d) ∷ s) ≡ valuesOn (Some d) s
+values-one d s h = let e : 10 * 0 + d ≡ d = omega arith in values-next 0 d s h ∙ ap (λ k. valuesOn (Some k) s) e
 
-values-number : (b : ℕ) → b ≤ 255 → (s : List ℕ) → valuesOn 0 (decimal b ++ s) ≡ valuesOn b s
-values-number b h s = reads-decimal (valuesOn 0) valuesOn 255 (omega arith) values-one (λ n d r _ q _. values-next n d r q) b h s
+values-number : (b : ℕ) → b ≤ 255 → (s : List ℕ) → valuesOn None (decimal b ++ s) ≡ valuesOn (Some b) s
+values-number b h s = reads-decimal (valuesOn None) (λ n. valuesOn (Some n)) 255 (omega arith) values-one (λ n d r _ q _. values-next n d r q) b h s
 
-values-spaced : (b : ℕ) (bs : List ℕ) → bytesOnly bs ≡ true → valuesOn b (spaced (map decimal bs) []) ≡ b ∷ bs
+values-spaced : (b : ℕ) (bs : List ℕ) → bytesOnly bs ≡ true → valuesOn (Some b) (spaced (map decimal bs) []) ≡ b ∷ bs
 values-spaced b [] e = refl
 values-spaced b (c ∷ cs) e = ap (λ l. b ∷ l) (values-number c (bytes-first c cs e) (spaced (map decimal cs) []) ∙ values-spaced c cs (bytes-rest c cs e))
-
-values-some : (s : List ℕ) → 0 < length s → values s ≡ valuesOn 0 s
-values-some [] h = absurd (omega arith)
-values-some (c ∷ cs) h = refl
-
-pub decimal-long : (b : ℕ) (s : List ℕ) → b < 2 ^ 32 → 0 < length (decimal b ++ s)
-decimal-long b s h = omega (arith, length-append (decimal b) s, decimal-some b (omega arith))
 
 pub values-listed : (vs : List ℕ) → bytesOnly vs ≡ true → values (listed vs []) ≡ vs
 values-listed [] e = refl
 values-listed (b ∷ bs) e =
     let low = bytes-first b bs e in
-    values-some (decimal b ++ spaced (map decimal bs) []) (decimal-long b _ (omega arith))
-    ∙ values-number b low (spaced (map decimal bs) [])
+    values-number b low (spaced (map decimal bs) [])
     ∙ values-spaced b bs (bytes-rest b bs e)
 
 -- a number begins with a digit

@@ -164,11 +164,18 @@ impl<'a> Lexer<'a> {
         Some(found)
     }
 
+    fn take(&mut self) -> Option<Token<'a>>
+        ensures taken { λ r. ⌜ Taken (now (self .entry) .rest .now) (mapped part r) (now (self .exit) .rest .now) ⌝ }
+        ensures whole { λ r. ⌜ found r Whole ⌝ }
+    {
+        self.advance()
+    }
+
     // Cuts the next token off the line: the part that the line begins with, and none where it begins with none.
     pub fn next(&mut self) -> Option<Token<'a>>
         ensures taken { λ r. ⌜ Taken (now (self .entry) .rest .now) (mapped part r) (now (self .exit) .rest .now) ⌝ }
         ensures whole { λ r. ⌜ found r Whole ⌝ }
     {
-        self.advance()
+        self.take()
     }
 }
