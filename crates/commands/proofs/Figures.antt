@@ -27,7 +27,7 @@ decimal-next n d p q h =
     decimal-step (10 * n + d) (omega arith) h ∙ ap (λ x. decimal x ++ (48 + (10 * n + d) % 10) ∷ []) e1 ∙ ap (λ x. decimal n ++ (48 + x) ∷ []) e2
 
 -- a reader that takes one digit after another takes a number whole
-pub reads-decimal : {R : Type 0} (begin : List ℕ → R) (on : ℕ → List ℕ → R) (most : ℕ) → most < 2 ^ 32
+pub reads-decimal : {R : Type 0} (begin : List ℕ → R) (on : ℕ → List ℕ → R) (most : ℕ) → most < 2 ^ 64
     → ((d : ℕ) (s : List ℕ) → d < 10 → begin ((48 + d) ∷ s) ≡ on d s)
     → ((n d : ℕ) (s : List ℕ) → 0 < n → d < 10 → 10 * n + d ≤ most → on n ((48 + d) ∷ s) ≡ on (10 * n + d) s)
     → (m : ℕ) → m ≤ most → (s : List ℕ) → begin (decimal m ++ s) ≡ on m s
@@ -58,7 +58,7 @@ pub record Number (most : ℕ) (s : List ℕ) (m : ℕ) (r : List ℕ) : Type 0 
   pub low : m ≤ most
   pub stops : Stops r
 
-module _ (most : ℕ) (small : most < 2 ^ 32) where
+module _ (most : ℕ) (small : most < 2 ^ 64) where
   number-ends : (n : ℕ) (s : List ℕ) (m : ℕ) (r : List ℕ) → n ≤ most → Stops s → _≡_ {A = Option (ℕ × List ℕ)} (Some (n, s)) (Some (m, r)) → Number most (decimal n ++ s) m r
   number-ends n s m r h st e =
       let p = some-same n m s r e in

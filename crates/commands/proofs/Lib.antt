@@ -5,3 +5,4 @@ pub mod Turns
 pub mod Valued
 pub mod Cuts
 pub mod Readings
+pub mod Replies

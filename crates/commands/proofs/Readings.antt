@@ -28,8 +28,8 @@ use Rattle.std.specs.Vec.{made}
 use Rattle.commands.specs.Numbers.{digit}
 use Rattle.commands.specs.Grammar.{spaced, listed, letter, Part, opening, closing, gap, word, number, bytes, spelt, Fit, Ends, Begins}
 use Rattle.commands.specs.Tokens.{cut}
-use Rattle.commands.specs.Calls.{verbWord, storeWord, driveWord, fateWord, Asked, make, write, read, flush, seal, poll, checkpoint, clean, reap, cut-kept, cut-lost, mount, verb, items, written, AllFit, asked, Whole}
-use Rattle.commands.specs.Reading.{chain, named, theOpening, theClosing, theGap, theNumber, theBytes, theWord, verbs, stores, drives, fates, theVerb, theStore, theDrive, theFate, picked, wanted, at, item, cutItems, itemsOf, ended, reading, turned, leftOf, Found}
+use Rattle.commands.specs.Calls.{verbWord, storeWord, driveWord, fateWord, Asked, make, write, read, flush, seal, poll, checkpoint, clean, reap, cut-kept, cut-lost, mount, verb, items, written, AllFit, asked, Whole, Asks, OneMeaning}
+use Rattle.commands.specs.Reading.{chain, named, theOpening, theClosing, theGap, theNumber, theBytes, theWord, verbs, stores, drives, fates, theVerb, theStore, theDrive, theFate, picked, wanted, at, item, cutItems, itemsOf, ended, reading, turned, leftOf, Found, ReadsBack}
 use Rattle.commands.proofs.Figures.{none-some}
 use Rattle.commands.proofs.Cuts.{cut-is, cut-back}
 
@@ -309,3 +309,14 @@ reading-back a f = begun a ∙ chain-ok _ (λ c. chain (at theClosing (c .1)) (�
 pub found-from : (line : List ℕ) (r : Result Call ℕ) → turned asked r ≡ reading line → made r Whole → Found line r
 found-from line (Ok c) e w = let q = reading-is line (asked c) (sym e) in (q .0, q .1, w)
 found-from line (Err n) e w = ((λ a is fit. err-ok n a (e ∙ ap reading is ∙ reading-back a fit)), ap leftOf e)
+
+-- no line asks for two calls
+pub one-meaning : OneMeaning
+one-meaning line a b p q =
+    let e : Ok a ≡ Ok b = sym (ap reading (p .is) ∙ reading-back a (p .fit)) ∙ (ap reading (q .is) ∙ reading-back b (q .fit)) in
+    cc
+
+-- a written call is read back
+pub reads-back : ReadsBack
+reads-back a f h (Ok c) p = ap Some (one-meaning (written a) (asked c) a (p .0) (record { short = h; is = refl; fit = f }))
+reads-back a f h (Err b) p = absurd (p .0 a (record { short = h; is = refl; fit = f }))

@@ -132,3 +132,7 @@ pub record Asks (line : List ℕ) (a : Asked) : Type 0 where
   pub short : length line ≤ 255
   pub is : line ≡ written a
   pub fit : AllFit (items a)
+
+-- No line asks for two calls.
+abbrev pub OneMeaning : Type 0
+OneMeaning = (line : List ℕ) (a b : Asked) → Asks line a → Asks line b → a ≡ b

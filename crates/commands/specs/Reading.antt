@@ -2,9 +2,11 @@
 use mathlib.Core.Path.{_≡_}
 use mathlib.Core.Bool.{cond}
 use mathlib.Core.List.{List, [], _∷_}
-use Prim.Native.Nat.{ℕ, _-_}
+use Prim.Native.Nat.{ℕ, _-_, _≤_}
 use lib.Dec.{eqb, leb}
 use lib.ListN.{length}
+use Rattle.std.specs.Options.{mapped}
+use Rattle.std.specs.Results.{okPart}
 use Rattle.std.specs.shelf.Text.{sameBytes}
 use Rattle.std.specs.declared.option.Option.{Option}
 use Rattle.std.specs.declared.option.Option.the-variants.{Some, None}
@@ -179,3 +181,7 @@ Found line (Err n) = ((a : Asked) → line ≡ written a → AllFit (items a) �
 abbrev pub Parsed : List ℕ → Result Call Bad → Type 0
 Parsed line (Ok c) = Asks line (asked c) × Whole c
 Parsed line (Err b) = ((a : Asked) → Asks line a → ⊥) × (b .at ≡ misfit line)
+
+-- A call that is written in at most 255 bytes is read from them, whatever reads lines as it should.
+abbrev pub ReadsBack : Type 0
+ReadsBack = (a : Asked) → AllFit (items a) → length (written a) ≤ 255 → (r : Result Call Bad) → Parsed (written a) r → mapped asked (okPart r) ≡ Some a

@@ -6,6 +6,7 @@ ghost use Rattle.std.specs.Options.{mapped};
 ghost use Rattle.std.specs.Slices.{found};
 ghost use Rattle.commands.specs.Numbers.{digit, numberIn};
 
+pub mod answer;
 pub mod call;
 pub mod list;
 pub mod token;

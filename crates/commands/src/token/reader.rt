@@ -5,9 +5,9 @@ ghost use lib.ListN.{length};
 ghost use Rattle.std.specs.Vec.{made};
 ghost use Rattle.std.specs.shelf.Text.{sameBytes};
 ghost use Rattle.commands.specs.Grammar.{word};
-ghost use Rattle.commands.specs.Calls.{asked, Whole};
+ghost use Rattle.commands.specs.Calls.{asked, Whole, OneMeaning};
 ghost use Rattle.commands.specs.Values.{values, Listing};
-ghost use Rattle.commands.specs.Reading.{turned, at as partAt, item as itemAt, theOpening, theClosing, theGap, theNumber, theBytes, theVerb, theStore, theDrive, theFate, itemsOf, cutItems, reading, Found, Parsed};
+ghost use Rattle.commands.specs.Reading.{turned, at as partAt, item as itemAt, theOpening, theClosing, theGap, theNumber, theBytes, theVerb, theStore, theDrive, theFate, itemsOf, cutItems, reading, Found, Parsed, ReadsBack};
 use crate::call::Bad;
 use crate::call::Call;
 use crate::call::DriveKind;
@@ -299,4 +299,18 @@ pub fn parse(line: &[u8]) -> Result<Call<'_>, Bad>
             at: line.len().saturating_sub(left),
         }),
     }
+}
+
+// No line asks for two calls.
+pub fn one_meaning() -> u8
+    ensures { λ _. ⌜ OneMeaning ⌝ }
+{
+    0
+}
+
+// A call that is written in at most 255 bytes is read from them.
+pub fn reads_back() -> u8
+    ensures { λ _. ⌜ ReadsBack ⌝ }
+{
+    0
 }
