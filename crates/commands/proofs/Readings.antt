@@ -1,7 +1,7 @@
 -- Reading a line finds the call that is written so. Assumes nothing.
 use mathlib.Core.Path.{_≡_, refl, sym, ap, subst, _∙_}
 use mathlib.Core.Bool.{Bool, true, false, cond}
-use mathlib.Core.List.{List, [], _∷_, _++_, map}
+use mathlib.Core.List.{List, [], _∷_, _++_, map, append-assoc}
 use Prim.Native.Nat.{ℕ, _+_, _-_, _^_, _≤_, _<_}
 use native.Mathlib.Omega.{arith}
 use lib.Dec.{eqb, leb, lit<}
@@ -23,7 +23,12 @@ use Rattle.commands.specs.declared.call.DriveKind.{DriveKind}
 use Rattle.commands.specs.declared.call.DriveKind.the-variants.{Buffered, Direct}
 use Rattle.commands.specs.declared.call.Fate.{Fate}
 use Rattle.commands.specs.declared.call.Fate.the-variants.{Kept, Lost}
+use lib.Chars.{codes}
 use Rattle.commands.specs.declared.call.Call.{Call}
+use Rattle.commands.specs.declared.call.Call.the-variants as call
+use Rattle.commands.specs.Printing.{callText}
+use Rattle.commands.specs.Values.{values}
+use Rattle.commands.proofs.Listings.{listed-end}
 use Rattle.std.specs.Vec.{made}
 use Rattle.commands.specs.Numbers.{digit}
 use Rattle.commands.specs.Grammar.{spaced, listed, letter, Part, opening, closing, gap, word, number, bytes, spelt, Fit, Ends, Begins}
@@ -320,3 +325,22 @@ one-meaning line a b p q =
 pub reads-back : ReadsBack
 reads-back a f h (Ok c) p = ap Some (one-meaning (written a) (asked c) a (p .0) (record { short = h; is = refl; fit = f }))
 reads-back a f h (Err b) p = absurd (p .0 a (record { short = h; is = refl; fit = f }))
+
+-- a call that was read is printed as it is written
+pub printed-is : (c : Call) → Whole c → callText c ≡ written (asked c)
+printed-is (call.Make b n s d) w = refl
+printed-is (call.Write a fill) w =
+    ap (λ t. codes "(write " ++ (decimal a ++ (codes " (" ++ t))) (ap (λ t. t ++ 41 ∷ 41 ∷ []) w ∙ sym (listed-end (values (fill .text .now)) (41 ∷ 41 ∷ [])))
+    ∙ ap (λ t. codes "(write " ++ (decimal a ++ (codes " (" ++ t))) (close (values (fill .text .now))) where
+      close : (vs : List ℕ) → listed vs (41 ∷ 41 ∷ []) ≡ listed vs (41 ∷ []) ++ 41 ∷ []
+      close vs = listed-end vs (41 ∷ 41 ∷ []) ∙ sym (append-assoc (listed vs []) (41 ∷ []) (41 ∷ [])) ∙ ap (λ t. t ++ 41 ∷ []) (sym (listed-end vs (41 ∷ [])))
+printed-is (call.Read a n) w = refl
+printed-is call.Flush w = refl
+printed-is call.Seal w = refl
+printed-is call.Poll w = refl
+printed-is call.Checkpoint w = refl
+printed-is (call.Clean o) w = refl
+printed-is call.Reap w = refl
+printed-is (call.CutKept s d) w = refl
+printed-is (call.CutLost s) w = refl
+printed-is call.Mount w = refl

@@ -6,3 +6,4 @@ pub mod Tokens
 pub mod Calls
 pub mod Reading
 pub mod Answers
+pub mod Printing

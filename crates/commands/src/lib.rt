@@ -9,6 +9,7 @@ ghost use Rattle.commands.specs.Numbers.{digit, numberIn};
 pub mod answer;
 pub mod call;
 pub mod list;
+pub mod print;
 pub mod token;
 
 // Whether the byte is a decimal digit.
