@@ -6,3 +6,4 @@ pub mod Valued
 pub mod Cuts
 pub mod Readings
 pub mod Replies
+pub mod Buffered

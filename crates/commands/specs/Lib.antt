@@ -7,3 +7,4 @@ pub mod Calls
 pub mod Reading
 pub mod Answers
 pub mod Printing
+pub mod Buffers

@@ -7,7 +7,9 @@ ghost use Rattle.std.specs.Slices.{found};
 ghost use Rattle.commands.specs.Numbers.{digit, numberIn};
 
 pub mod answer;
+pub mod buffer;
 pub mod call;
+pub mod line;
 pub mod list;
 pub mod print;
 pub mod token;
