@@ -1,8 +1,10 @@
 // Reads command lines from standard input, and prints for each the call that it asks for, or that it is bad and where.
 use commands::answer::Answer;
+use commands::answer::AnswerDisplay;
 use commands::buffer::LineBuffer;
 use commands::call::Call;
 use commands::list::ByteList;
+use commands::print::CallDisplay;
 use commands::token::reader::parse;
 use std::io;
 use std::io::BufReader;
