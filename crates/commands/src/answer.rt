@@ -10,11 +10,11 @@ use std::fmt;
 
 // Numbers, each after one space.
 #[derive(Clone, Copy)]
-pub struct Numbers<'a> {
-    pub items: &'a [u64],
+struct Numbers<'a> {
+    items: &'a [u64],
 }
 
-pub impl fmt::Display for Numbers<'_> as NumbersDisplay {
+impl fmt::Display for Numbers<'_> as NumbersDisplay {
     ghost shown = { λ x. Some (numbersText x) };
 
     fn fmt<W: fmt::Write>(&self, f: &mut fmt::Formatter<W>) -> fmt::Result {

@@ -122,10 +122,10 @@ impl<'a> Lexer<'a> {
     fn gap(&mut self) -> Result<(), usize>
         ensures { λ r. ⌜ turned (λ x. (x, now (self .exit) .rest .now)) r ≡ partAt theGap (now (self .entry) .rest .now) ⌝ }
     {
-        let left = self.rest.len();
+        let before = self.rest.len();
         match self.advance() {
             Some(Token::Space) => Ok(()),
-            _ => Err(left),
+            _ => Err(before),
         }
     }
 
