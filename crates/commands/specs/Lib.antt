@@ -1,0 +1,10 @@
+pub mod Numbers
+pub mod Grammar
+pub mod Values
+pub mod Elements
+pub mod Tokens
+pub mod Calls
+pub mod Reading
+pub mod Answers
+pub mod Printing
+pub mod Buffers
