@@ -42,7 +42,7 @@ impl Area {
         if i >= self.slots.len() {
             return Err(DriveFault::NoSuchSlot);
         }
-        *out = self.slots[i];
+        out.copy_from_slice(&self.slots[i]);
         Ok(())
     }
 
@@ -55,7 +55,7 @@ impl Area {
         if i >= self.slots.len() {
             return Err(DriveFault::NoSuchSlot);
         }
-        self.slots[i] = *bytes;
+        self.slots[i].copy_from_slice(bytes);
         Ok(())
     }
 
