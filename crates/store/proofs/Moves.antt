@@ -15,7 +15,7 @@ use Rattle.std.proofs.shelf.Tests.{or-parts, or-from, cond-true, cond-false}
 use Rattle.std.proofs.shelf.Lists.{append-nil, append-assoc, getD-at, take-at, drop-at, length-append, drop-drop, nil-from-length}
 use Rattle.store.specs.declared.directory.Entry.{Entry}
 use Rattle.store.specs.Views.{Object, nothing, StoreView, holding, has, bytes-of, place, place-all, without, chosen, bits}
-use Rattle.store.specs.Calls.{putting, Lands, landing, deleting, settling, Cut-by, Cut-to}
+use Rattle.store.specs.Calls.{putting, Lands, landing, deleting, settling, vanishing, Cut-by, Cut-to}
 use Rattle.store.specs.Items.{Item, landed-of, pending-of, view}
 use Rattle.store.specs.Entries.{item, items, total, waits, named, stored, tidy, risen}
 use Rattle.store.proofs.Placing.{has-place, bytes-place, without-placed}
@@ -27,10 +27,6 @@ use Rattle.store.proofs.Tidy.{tidy-before, tidy-after}
 pub same-view : (w : ℕ → ℕ) (c : ℕ) {ls ls′ ps ps′ : List Object} → ls ≡ ls′ → ps ≡ ps′
   → _≡_ {A = StoreView} (record { landed = ls; pending = ps; weight = w; capacity = c }) (record { landed = ls′; pending = ps′; weight = w; capacity = c })
 same-view w c e f = λ i. record { landed = e i; pending = f i; weight = w; capacity = c }
-
--- pending put i is gone
-abbrev pub vanishing : StoreView → ℕ → StoreView
-vanishing v i = holding v (v .landed) (removed (v .pending) i)
 
 removed-at : (p : List Object) (x : Object) (q : List Object) (k : ℕ) → length p ≡ k → removed (p ++ x ∷ q) k ≡ p ++ q
 removed-at p x q k h =

@@ -115,6 +115,10 @@ Deleted v n r w = Outcome (delete-refusal v n) r v (deleting v n) w
 abbrev pub settling : StoreView → List Bool → StoreView
 settling v cs = holding v (place-all (chosen cs (v .pending)) (v .landed)) []
 
+-- Pending put i has vanished.
+abbrev pub vanishing : StoreView → ℕ → StoreView
+vanishing v i = holding v (v .landed) (removed (v .pending) i)
+
 -- What a cut leaves: one choice for each pending put, whichever.
 pub record Cut-to (v w : StoreView) : Type 0 where
   pub choices : List Bool

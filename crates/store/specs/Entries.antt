@@ -9,6 +9,8 @@ use Rattle.std.specs.declared.option.Option.{Option}
 use Rattle.std.specs.declared.option.Option.the-variants.{Some, None}
 use Rattle.store.specs.declared.directory.Entry.{Entry}
 use Rattle.store.specs.Views.{Object}
+use Rattle.store.specs.declared.fault.StoreFault.{StoreFault}
+use Rattle.store.specs.declared.fault.StoreFault.the-variants.{Length, Taken, Crowded, Full}
 use Rattle.store.specs.Calls.{lawful-length}
 use Rattle.store.specs.Items.{Item}
 
@@ -65,17 +67,34 @@ tidy (e ∷ es) = (leb 1 (e .number) && lawful-length (e .length)) && (not (name
 abbrev pub risen : Entry → Entry
 risen e = record { number = e .number; length = e .length; landed = true }
 
+-- The entry of no object.
+abbrev pub blank : Entry
+blank = record { number = 0; length = 0; landed = false }
+
 -- Entry i is landed and has the number; or none is and has.
 abbrev pub Found : List Entry → ℕ → Option ℕ → Type 0
 Found es n None = stored es n ≡ false
-Found es n (Some i) = (i < length es) × ((d : Entry) → (getD es i d .number ≡ n) × (getD es i d .landed ≡ true))
+Found es n (Some i) = (i < length es) × (getD es i blank .number ≡ n) × (getD es i blank .landed ≡ true)
 
 -- Entry i is pending and none before it is; or none is at all.
 abbrev pub Oldest : List Entry → Option ℕ → Type 0
 Oldest es None = waits es ≡ 0
-Oldest es (Some i) = (i < length es) × ((d : Entry) → getD es i d .landed ≡ false) × (waits (take i es) ≡ 0)
+Oldest es (Some i) = (i < length es) × (getD es i blank .landed ≡ false) × (waits (take i es) ≡ 0)
 
 -- Entry i is pending and none after it is; or none is at all.
 abbrev pub Newest : List Entry → Option ℕ → Type 0
 Newest es None = waits es ≡ 0
-Newest es (Some i) = (i < length es) × ((d : Entry) → getD es i d .landed ≡ false) × (waits (drop (i + 1) es) ≡ 0)
+Newest es (Some i) = (i < length es) × (getD es i blank .landed ≡ false) × (waits (drop (i + 1) es) ≡ 0)
+
+-- The refusal that a put of so many bytes is due, by the directory, the count of pending puts and whether there is room.
+abbrev pub due : List Entry → ℕ → ℕ → ℕ → Bool → Option StoreFault
+due es waiting n long fits =
+  cond (lawful-length long)
+    (cond (eqb n 0 || named es n) (Some Taken)
+      (cond (leb 8 waiting) (Some Crowded)
+        (cond fits None (Some Full))))
+    (Some Length)
+
+-- The entries are lawful, and the pending ones are counted and at most eight.
+abbrev pub Listed : List Entry → ℕ → Type 0
+Listed es waiting = (tidy es ≡ true) × (waiting ≡ waits es) × (waiting ≤ 8)

@@ -2,3 +2,5 @@ pub mod Views
 pub mod Calls
 pub mod Items
 pub mod Entries
+pub mod PackedSound
+pub mod Packed

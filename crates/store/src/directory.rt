@@ -1,8 +1,127 @@
 // A store's directory: an entry for each object, in put order.
+ghost use mathlib.Core.Path.{_≡_};
+ghost use mathlib.Core.Bool.{Bool, true, false, cond, _||_};
+ghost use Prim.Native.Nat.{ℕ, _+_, _^_, _<_, _≤_};
+ghost use lib.Dec.{eqb, leb};
+ghost use lib.ListN.{length, getD, take, drop};
+ghost use Rattle.store.specs.Entries.{named, lowest, lower, offer, total, Found, Oldest, Newest, due};
+
+pub mod packed;
+
+use crate::fault::StoreFault;
 
 #[derive(Clone, Copy)]
 pub struct Entry {
     pub number: u32,
     pub length: u32,
     pub landed: bool,
+}
+
+// Whether an entry has the number.
+fn is_named(entries: &[Entry], number: u32) -> bool
+    ensures { λ r. ⌜ r ≡ named (now (entries .entry)) number ⌝ }
+{
+    for e in entries {
+        if e.number == number {
+            return true;
+        }
+    }
+    false
+}
+
+// The landed entry with the number.
+fn find(entries: &[Entry], number: u32) -> Option<usize>
+    ensures { λ r. ⌜ Found (now (entries .entry)) number r ⌝ }
+{
+    for (i, e) in entries.iter().enumerate() {
+        if e.landed && e.number == number {
+            return Some(i);
+        }
+    }
+    None
+}
+
+// The first pending entry.
+fn oldest(entries: &[Entry]) -> Option<usize>
+    ensures { λ r. ⌜ Oldest (now (entries .entry)) r ⌝ }
+{
+    for (i, e) in entries.iter().enumerate() {
+        if !e.landed {
+            return Some(i);
+        }
+    }
+    None
+}
+
+// The last pending entry.
+fn newest(entries: &[Entry]) -> Option<usize>
+    ensures { λ r. ⌜ Newest (now (entries .entry)) r ⌝ }
+{
+    let mut i = entries.len();
+    while i > 0 {
+        i -= 1;
+        if !entries[i].landed {
+            return Some(i);
+        }
+    }
+    None
+}
+
+// The lowest number from `from` on of a landed entry.
+fn lowest_from(entries: &[Entry], from: u32) -> Option<u32>
+    ensures { λ r. ⌜ r ≡ lowest (now (entries .entry)) from ⌝ }
+{
+    let mut best = None;
+    for e in entries {
+        best = better(best, *e, from);
+    }
+    best
+}
+
+// The lower of what is known and the entry's number, if that is landed and from `from` on.
+fn better(best: Option<u32>, e: Entry, from: u32) -> Option<u32>
+    ensures { λ r. ⌜ r ≡ lower best (offer e from) ⌝ }
+{
+    if !e.landed || e.number < from {
+        return best;
+    }
+    match best {
+        Some(b) if b <= e.number => best,
+        _ => Some(e.number),
+    }
+}
+
+// The refusal that a put is due.
+fn refusal(
+    entries: &[Entry],
+    waiting: u32,
+    number: u32,
+    length: usize,
+    fits: bool,
+) -> Option<StoreFault>
+    ensures { λ r. ⌜ r ≡ due (now (entries .entry)) waiting number length fits ⌝ }
+{
+    if length < 1 || length > 16664 {
+        return Some(StoreFault::Length);
+    }
+    if number == 0 || is_named(entries, number) {
+        return Some(StoreFault::Taken);
+    }
+    if waiting >= 8 {
+        return Some(StoreFault::Crowded);
+    }
+    if fits { None } else { Some(StoreFault::Full) }
+}
+
+// How many bytes the objects of the first `count` entries have.
+fn bytes_before(entries: &[Entry], count: usize) -> usize
+    requires within { ⌜ count ≤ length (now entries) ⌝ }
+    requires fits { ⌜ total (λ n. n) (now entries) < 2 ^ 32 ⌝ }
+    ensures { λ r. ⌜ r ≡ total (λ n. n) (take count (now (entries .entry))) ⌝ }
+{
+    let mut sum = 0;
+    for i in 0..count {
+        sum += entries[i].length as usize;
+    }
+    sum
 }
