@@ -24,3 +24,11 @@ before-written xs bs ys at h = take-at (take at xs) (bs ++ ys) at (length-take-l
 
 pub at-written : (xs bs ys : List ℕ) (at : ℕ) → at ≤ length xs → take (length bs) (drop at (take at xs ++ (bs ++ ys))) ≡ bs
 at-written xs bs ys at h = ap (take (length bs)) (drop-at (take at xs) (bs ++ ys) at (length-take-le at xs h)) ∙ take-at bs ys (length bs) refl
+
+-- the area after what lay behind a hole has moved up
+pub closed-front : (a : List ℕ) (start : ℕ) (s : List ℕ) (n : ℕ) → start ≤ length a → take start (paste a start s n) ≡ take start a
+closed-front a start s n h = ap (take start) (append-assoc (take start a) (take n s) (drop (start + n) a)) ∙ take-at (take start a) (take n s ++ drop (start + n) a) start (length-take-le start a h)
+
+pub closed-back : (a : List ℕ) (start : ℕ) (s : List ℕ) (n : ℕ) → start ≤ length a → n ≤ length s → take n (drop start (paste a start s n)) ≡ take n s
+closed-back a start s n h k =
+  ap (λ z. take n (drop start z)) (append-assoc (take start a) (take n s) (drop (start + n) a)) ∙ ap (take n) (drop-at (take start a) (take n s ++ drop (start + n) a) start (length-take-le start a h)) ∙ take-at (take n s) (drop (start + n) a) n (length-take-le n s k)

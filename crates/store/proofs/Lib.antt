@@ -5,4 +5,5 @@ pub mod Tidy
 pub mod Moves
 pub mod Scans
 pub mod Areas
+pub mod Changes
 pub mod PackedMoves

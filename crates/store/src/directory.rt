@@ -1,10 +1,13 @@
 // A store's directory: an entry for each object, in put order.
 ghost use mathlib.Core.Path.{_≡_};
 ghost use mathlib.Core.Bool.{Bool, true, false, cond, _||_};
-ghost use Prim.Native.Nat.{ℕ, _+_, _^_, _<_, _≤_};
+ghost use mathlib.Core.List.{[], _∷_, _++_};
+ghost use Prim.Native.Nat.{ℕ, suc, _+_, _^_, _<_, _≤_};
 ghost use lib.Dec.{eqb, leb};
 ghost use lib.ListN.{length, getD, take, drop};
-ghost use Rattle.store.specs.Entries.{named, lowest, lower, offer, total, Found, Oldest, Newest, due};
+ghost use Rattle.std.specs.Holes.{removed};
+ghost use Rattle.std.specs.Of.Vec.{vec-items, vec-len, vec-cap};
+ghost use Rattle.store.specs.Entries.{named, lowest, lower, offer, total, risen, blank, waits, Found, Oldest, Newest, due};
 
 pub mod packed;
 
@@ -111,6 +114,40 @@ fn refusal(
         return Some(StoreFault::Crowded);
     }
     if fits { None } else { Some(StoreFault::Full) }
+}
+
+// Marks a pending entry as landed, and answers its number.
+fn raise(entries: &mut Vec<Entry>, i: usize) -> u32
+    requires { ⌜ i < vec-len (now entries) ⌝ }
+    ensures number { λ r. ⌜ r ≡ getD (vec-items (now (entries .entry))) i blank .number ⌝ }
+    ensures items { λ _. ⌜ vec-items (now (entries .exit)) ≡ take i (vec-items (now (entries .entry))) ++ risen (getD (vec-items (now (entries .entry))) i blank) ∷ drop (suc i) (vec-items (now (entries .entry))) ⌝ }
+    ensures len { λ _. ⌜ vec-len (now (entries .exit)) ≡ vec-len (now (entries .entry)) ⌝ }
+    ensures capacity { λ _. ⌜ vec-cap (now (entries .exit)) ≡ vec-cap (now (entries .entry)) ⌝ }
+{
+    let e = entries[i];
+    entries[i] = Entry {
+        number: e.number,
+        length: e.length,
+        landed: true,
+    };
+    e.number
+}
+
+// Takes an entry out.
+fn take_out(entries: &mut Vec<Entry>, i: usize) -> Entry
+    requires { ⌜ i < vec-len (now entries) ⌝ }
+    ensures gone { λ r. ⌜ r ≡ getD (vec-items (now (entries .entry))) i blank ⌝ }
+    ensures items { λ _. ⌜ vec-items (now (entries .exit)) ≡ removed (vec-items (now (entries .entry))) i ⌝ }
+    ensures capacity { λ _. ⌜ vec-cap (now (entries .exit)) ≡ vec-cap (now (entries .entry)) ⌝ }
+{
+    entries.remove(i)
+}
+
+// 1 for a pending entry, else 0.
+fn pending_count(e: Entry) -> u32
+    ensures { λ r. ⌜ r ≡ waits (e ∷ []) ⌝ }
+{
+    if e.landed { 0 } else { 1 }
 }
 
 // How many bytes the objects of the first `count` entries have.

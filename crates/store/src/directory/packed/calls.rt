@@ -4,7 +4,7 @@ ghost use mathlib.Core.Bool.{true, false};
 ghost use Prim.Native.Nat.{ℕ, _+_, _-_, _*_, _<_, _≤_};
 ghost use lib.Dec.{leb};
 ghost use lib.ListN.{length, getD, take, drop};
-ghost use mathlib.Core.List.{_++_};
+ghost use mathlib.Core.List.{[], _∷_, _++_};
 ghost use Rattle.std.specs.Of.Vec.{vec-items, vec-len};
 ghost use Rattle.std.specs.declared.option.Option.the-variants.{Some, None};
 ghost use Rattle.store.specs.Views.{StoreView, next-from};
@@ -16,7 +16,10 @@ use crate::directory::bytes_before;
 use crate::directory::find;
 use crate::directory::lowest_from;
 use crate::directory::oldest;
+use crate::directory::pending_count;
+use crate::directory::raise;
 use crate::directory::refusal;
+use crate::directory::take_out;
 use crate::directory::packed::PackedStore;
 use crate::fault::StoreFault;
 
@@ -62,5 +65,32 @@ impl PackedStore {
         });
         self.used = end;
         self.waiting += 1;
+    }
+
+    // Lands a pending object, and answers its number.
+    fn land(&mut self, i: usize) -> u32
+        requires within { ⌜ i < vec-len (now self .entries) ⌝ }
+        requires pending { ⌜ getD (vec-items (now self .entries)) i blank .landed ≡ false ⌝ }
+        ensures lands { λ r. ⌜ Lands (packed (now (self .entry))) (waits (take i (vec-items (now (self .entry) .entries)))) r (packed (now (self .exit))) ⌝ }
+        ensures fewer { λ _. ⌜ now (self .exit) .waiting + 1 ≡ now (self .entry) .waiting ⌝ }
+    {
+        self.waiting -= 1;
+        raise(&mut self.entries, i)
+    }
+
+    // Takes an object out and closes up behind it.
+    fn remove(&mut self, i: usize)
+        requires { ⌜ i < vec-len (now self .entries) ⌝ }
+        ensures landed { λ _. ⌜ (getD (vec-items (now (self .entry) .entries)) i blank .landed ≡ true → packed (now (self .exit)) ≡ deleting (packed (now (self .entry))) (getD (vec-items (now (self .entry) .entries)) i blank .number)) ⌝ }
+        ensures pending { λ _. ⌜ (getD (vec-items (now (self .entry) .entries)) i blank .landed ≡ false → packed (now (self .exit)) ≡ vanishing (packed (now (self .entry))) (waits (take i (vec-items (now (self .entry) .entries))))) ⌝ }
+        ensures fewer { λ _. ⌜ now (self .exit) .waiting + waits (getD (vec-items (now (self .entry) .entries)) i blank ∷ []) ≡ now (self .entry) .waiting ⌝ }
+    {
+        let start = bytes_before(&self.entries, i);
+        let e = take_out(&mut self.entries, i);
+        let end = start + e.length as usize;
+        let used = self.used;
+        self.area.copy_within(end..used, start);
+        self.used = used - e.length as usize;
+        self.waiting -= pending_count(e);
     }
 }
