@@ -11,12 +11,12 @@ use Rattle.std.proofs.shelf.Lists.{length-append, length-drop, length-take, len
 
 -- what a vector holds once part of it has been written
 pub written : (xs ys d z bs : List ℕ) (n at k e : ℕ) → n ≡ length xs → d ≡ xs → z ≡ bs → k ≡ length bs → e ≡ at + k → at + k ≤ n
-  → take n ((take at d ++ (z ++ postOf at (e - at) d)) ++ drop (length (take at d ++ (z ++ postOf at (e - at) d))) ys) ≡ take at xs ++ (bs ++ drop (at + k) xs)
+    → take n ((take at d ++ (z ++ postOf at (e - at) d)) ++ drop (length (take at d ++ (z ++ postOf at (e - at) d))) ys) ≡ take at xs ++ (bs ++ drop (at + k) xs)
 written xs ys d z bs n at k e hn hd hz hk he h =
-  let q : postOf at (e - at) d ≡ drop (at + k) xs = ap (λ t. postOf at (e - at) t) hd ∙ drop-drop (e - at) at xs ∙ ap (λ t. drop t xs) (omega arith) in
-  let x : take at d ++ (z ++ postOf at (e - at) d) ≡ take at xs ++ (bs ++ drop (at + k) xs) = cc in
-  let l : length (take at xs ++ (bs ++ drop (at + k) xs)) ≡ n = simp (length-append, length-take, length-drop) (omega arith) in
-  take-at (take at d ++ (z ++ postOf at (e - at) d)) (drop (length (take at d ++ (z ++ postOf at (e - at) d))) ys) n (ap length x ∙ l) ∙ x
+    let q : postOf at (e - at) d ≡ drop (at + k) xs = ap (λ t. postOf at (e - at) t) hd ∙ drop-drop (e - at) at xs ∙ ap (λ t. drop t xs) (omega arith) in
+    let x : take at d ++ (z ++ postOf at (e - at) d) ≡ take at xs ++ (bs ++ drop (at + k) xs) = cc in
+    let l : length (take at xs ++ (bs ++ drop (at + k) xs)) ≡ n = simp (length-append, length-take, length-drop) (omega arith) in
+    take-at (take at d ++ (z ++ postOf at (e - at) d)) (drop (length (take at d ++ (z ++ postOf at (e - at) d))) ys) n (ap length x ∙ l) ∙ x
 
 -- the area before, at and after bytes that were written
 pub before-written : (xs bs ys : List ℕ) (at : ℕ) → at ≤ length xs → take at (take at xs ++ (bs ++ ys)) ≡ take at xs
@@ -31,4 +31,4 @@ closed-front a start s n h = ap (take start) (append-assoc (take start a) (take 
 
 pub closed-back : (a : List ℕ) (start : ℕ) (s : List ℕ) (n : ℕ) → start ≤ length a → n ≤ length s → take n (drop start (paste a start s n)) ≡ take n s
 closed-back a start s n h k =
-  ap (λ z. take n (drop start z)) (append-assoc (take start a) (take n s) (drop (start + n) a)) ∙ ap (take n) (drop-at (take start a) (take n s ++ drop (start + n) a) start (length-take-le start a h)) ∙ take-at (take n s) (drop (start + n) a) n (length-take-le n s k)
+    ap (λ z. take n (drop start z)) (append-assoc (take start a) (take n s) (drop (start + n) a)) ∙ ap (take n) (drop-at (take start a) (take n s ++ drop (start + n) a) start (length-take-le start a h)) ∙ take-at (take n s) (drop (start + n) a) n (length-take-le n s k)

@@ -7,3 +7,5 @@ pub mod Scans
 pub mod Areas
 pub mod Changes
 pub mod PackedMoves
+pub mod Cuts
+pub mod Answered

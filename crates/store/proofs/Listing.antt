@@ -27,13 +27,13 @@ weighs w (x ∷ xs) = w (length (x .object .1)) + weighs w xs
 
 -- the landed ones around an item
 pub landed-split : (pre : List Item) (x : Item) (post : List Item) → numbered pre (x .object .0) ≡ false
-  → landed-of (pre ++ x ∷ post) ≡ cond (x .landed) (place (x .object) (landed-of (pre ++ post))) (landed-of (pre ++ post))
+    → landed-of (pre ++ x ∷ post) ≡ cond (x .landed) (place (x .object) (landed-of (pre ++ post))) (landed-of (pre ++ post))
 landed-split [] x post f = refl
 landed-split (y ∷ pre) x post f =
-  let p = or-parts (eqb (y .object .0) (x .object .0)) (numbered pre (x .object .0)) f in
-  let ih = landed-split pre x post (p .1) in
-  let k = place-comm (y .object) (x .object) (landed-of (pre ++ post)) (eqb-false (y .object .0) (x .object .0) (p .0)) in
-  grind (arith, tells)
+    let p = or-parts (eqb (y .object .0) (x .object .0)) (numbered pre (x .object .0)) f in
+    let ih = landed-split pre x post (p .1) in
+    let k = place-comm (y .object) (x .object) (landed-of (pre ++ post)) (eqb-false (y .object .0) (x .object .0) (p .0)) in
+    grind (arith, tells)
 
 -- an item that is pending adds nothing to them
 pub landed-skip : (pre : List Item) (x : Item) (post : List Item) → x .landed ≡ false → landed-of (pre ++ x ∷ post) ≡ landed-of (pre ++ post)

@@ -13,6 +13,8 @@ use Rattle.std.specs.Options.{valueOr, mapped, okOr, Cases}
 use Rattle.std.specs.Holes.{removed}
 use Rattle.store.specs.declared.fault.StoreFault.{StoreFault}
 use Rattle.store.specs.declared.fault.StoreFault.the-variants.{Length, Taken, Crowded, Full, Absent, PastEnd}
+use Rattle.store.specs.declared.fault.MakeFault.{MakeFault}
+use Rattle.store.specs.declared.fault.MakeFault.the-variants.{Range, Memory}
 use Rattle.store.specs.Views.{Object, nothing, StoreView, holding, has, bytes-of, place, place-all, without, next-from, load, taken, chosen, bits}
 
 -- The number that a refusal is known by.
@@ -36,10 +38,10 @@ lawful-length n = leb 1 n && leb n 16664
 -- The refusal that a put is due, if any: the first that applies.
 abbrev pub put-refusal : StoreView → ℕ → List ℕ → Option StoreFault
 put-refusal v n bs =
-  cond (lawful-length (length bs))
+    cond (lawful-length (length bs))
     (cond (taken v n) (Some Taken)
-      (cond (leb 8 (length (v .pending))) (Some Crowded)
-        (cond (leb (load v + v .weight (length bs)) (v .capacity)) None (Some Full))))
+    (cond (leb 8 (length (v .pending))) (Some Crowded)
+    (cond (leb (load v + v .weight (length bs)) (v .capacity)) None (Some Full))))
     (Some Length)
 
 -- One put more at the end of the pending ones.
@@ -132,3 +134,9 @@ Cut-by s v w = w ≡ settling v (bits s (length (v .pending)))
 -- A store in which nothing is landed or pending.
 abbrev pub empty-store : (ℕ → ℕ) → ℕ → StoreView
 empty-store w c = record { landed = []; pending = []; weight = w; capacity = c }
+
+-- What making a store of a capacity of 1 to a limit does: an empty one; refused for its range exactly where that is wrong, and else only for want of memory.
+abbrev pub Made : {S : Type 0} → (S → StoreView) → (ℕ → ℕ) → ℕ → ℕ → Result S MakeFault → Type 0
+Made meaning w limit c (Ok s) = (1 ≤ c) × (c ≤ limit) × (meaning s ≡ empty-store w c)
+Made meaning w limit c (Err Range) = (leb 1 c && leb c limit) ≡ false
+Made meaning w limit c (Err Memory) = (1 ≤ c) × (c ≤ limit)

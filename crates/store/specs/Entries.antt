@@ -10,7 +10,9 @@ use Rattle.std.specs.declared.option.Option.the-variants.{Some, None}
 use Rattle.store.specs.declared.directory.Entry.{Entry}
 use Rattle.store.specs.Views.{Object}
 use Rattle.store.specs.declared.fault.StoreFault.{StoreFault}
-use Rattle.store.specs.declared.fault.StoreFault.the-variants.{Length, Taken, Crowded, Full}
+use Rattle.store.specs.declared.fault.StoreFault.the-variants.{Length, Taken, Crowded, Full, Absent, PastEnd}
+use Rattle.std.specs.declared.result.Result.{Result}
+use Rattle.std.specs.declared.result.Result.the-variants.{Ok, Err}
 use Rattle.store.specs.Calls.{lawful-length}
 use Rattle.store.specs.Items.{Item}
 
@@ -76,6 +78,22 @@ abbrev pub Found : List Entry → ℕ → Option ℕ → Type 0
 Found es n None = stored es n ≡ false
 Found es n (Some i) = (i < length es) × (getD es i blank .number ≡ n) × (getD es i blank .landed ≡ true)
 
+-- A landed entry has the number, and its object is too short for the part.
+pub record Too-short (es : List Entry) (n from count : ℕ) : Type 0 where
+  pub at : ℕ
+  pub found : Found es n (Some at)
+  pub short : getD es at blank .length < from + count
+
+-- Entry i is landed and has the number, and its object has the part; or why there is none such.
+abbrev pub Part-found : List Entry → ℕ → ℕ → ℕ → Result ℕ StoreFault → Type 0
+Part-found es n from count (Ok i) = Found es n (Some i) × (from + count ≤ getD es i blank .length)
+Part-found es n from count (Err Length) = ⊥
+Part-found es n from count (Err Taken) = ⊥
+Part-found es n from count (Err Crowded) = ⊥
+Part-found es n from count (Err Full) = ⊥
+Part-found es n from count (Err Absent) = stored es n ≡ false
+Part-found es n from count (Err PastEnd) = Too-short es n from count
+
 -- Entry i is pending and none before it is; or none is at all.
 abbrev pub Oldest : List Entry → Option ℕ → Type 0
 Oldest es None = waits es ≡ 0
@@ -89,10 +107,10 @@ Newest es (Some i) = (i < length es) × (getD es i blank .landed ≡ false) × (
 -- The refusal that a put of so many bytes is due, by the directory, the count of pending puts and whether there is room.
 abbrev pub due : List Entry → ℕ → ℕ → ℕ → Bool → Option StoreFault
 due es waiting n long fits =
-  cond (lawful-length long)
+    cond (lawful-length long)
     (cond (eqb n 0 || named es n) (Some Taken)
-      (cond (leb 8 waiting) (Some Crowded)
-        (cond fits None (Some Full))))
+    (cond (leb 8 waiting) (Some Crowded)
+    (cond fits None (Some Full))))
     (Some Length)
 
 -- The entries are lawful, and the pending ones are counted and at most eight.

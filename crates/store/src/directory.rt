@@ -7,7 +7,7 @@ ghost use lib.Dec.{eqb, leb};
 ghost use lib.ListN.{length, getD, take, drop};
 ghost use Rattle.std.specs.Holes.{removed};
 ghost use Rattle.std.specs.Of.Vec.{vec-items, vec-len, vec-cap};
-ghost use Rattle.store.specs.Entries.{named, lowest, lower, offer, total, risen, blank, waits, Found, Oldest, Newest, due};
+ghost use Rattle.store.specs.Entries.{named, lowest, lower, offer, total, risen, blank, waits, Found, Part-found, Oldest, Newest, due};
 
 pub mod packed;
 
@@ -42,6 +42,31 @@ fn find(entries: &[Entry], number: u32) -> Option<usize>
         }
     }
     None
+}
+
+// The length of an entry's object.
+fn length_at(entries: &[Entry], i: usize) -> u32
+    requires { ⌜ i < length (now entries) ⌝ }
+    ensures { λ r. ⌜ r ≡ getD (now (entries .entry)) i blank .length ⌝ }
+{
+    entries[i].length
+}
+
+// The landed entry with the number, if its object has `count` bytes from `from` on.
+fn find_part(entries: &[Entry], number: u32, from: u32, count: usize) -> Result<usize, StoreFault>
+    ensures { λ r. ⌜ Part-found (now (entries .entry)) number from count r ⌝ }
+{
+    match find(entries, number) {
+        None => Err(StoreFault::Absent),
+        Some(i) => {
+            let length = length_at(entries, i);
+            if from <= length && count <= (length - from) as usize {
+                Ok(i)
+            } else {
+                Err(StoreFault::PastEnd)
+            }
+        }
+    }
 }
 
 // The first pending entry.

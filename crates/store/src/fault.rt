@@ -1,6 +1,7 @@
 // Why a store refuses a call, and why a store cannot be made.
-
-
+ghost use mathlib.Core.Path.{_≡_};
+ghost use Rattle.store.specs.declared.fault.MakeFault.the-variants.{Memory};
+use std::alloc::AllocError;
 
 #[derive(Clone, Copy, PartialEq, Eq, Debug)]
 pub enum StoreFault {
@@ -16,4 +17,20 @@ pub enum StoreFault {
     Absent,
     // The part passes the object's end.
     PastEnd,
+}
+
+#[derive(Clone, Copy, PartialEq, Eq, Debug)]
+pub enum MakeFault {
+    // The capacity is out of range.
+    Range,
+    // There is not enough memory.
+    Memory,
+}
+
+pub impl From<AllocError> for MakeFault as MakeFromAlloc {
+    ghost converts = { λ _ r. r ≡ Memory };
+
+    fn from(_e: AllocError) -> MakeFault {
+        MakeFault::Memory
+    }
 }

@@ -7,6 +7,7 @@ ghost use Rattle.store.specs.Calls.{Put, Polled, sized, Got, Deleted, Cut-to};
 
 pub mod directory;
 pub mod fault;
+pub mod number;
 
 use fault::StoreFault;
 

@@ -5,7 +5,7 @@ use Rattle.store.proofs.directory.find.Needs.{else-e·by·then-e·else-e-numbe
 
 pub loop-i-again : need.loop-i-again
 loop-i-again c =
-  stored-on _ _ _ (c .loop-i-test .taken)
+    stored-on _ _ _ (c .loop-i-test .taken)
     (elim (c .else-e .came) [ else-e·by·then-e·else-e-number w ↦ and-right _ _ (ne-eqb _ _ (w .if-e-number .left)) | else-e·by·else-e w ↦ and-left _ _ (w .if-e .left) ])
     (c .loop-i .inv)
 

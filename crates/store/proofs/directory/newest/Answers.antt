@@ -13,8 +13,8 @@ loop-i-holds c = (omega arith, ap waits (drop-all _ (c .args .entries .now) (ome
 
 pub returns-then-not-entries-i : need.returns-then-not-entries-i
 returns-then-not-entries-i c =
-  let e : c .loop-i .i - 1 + 1 ≡ c .loop-i .i = omega arith in
-  (omega arith, c .if-not-entries-i .taken, ap (λ z. waits (drop z (c .args .entries .now))) e ∙ c .loop-i .inv .1)
+    let e : c .loop-i .i - 1 + 1 ≡ c .loop-i .i = omega arith in
+    (omega arith, c .if-not-entries-i .taken, ap (λ z. waits (drop z (c .args .entries .now))) e ∙ c .loop-i .inv .1)
 
 pub loop-i-again : need.loop-i-again
 loop-i-again c = (omega arith, waits-back (c .args .entries .now) _ (c .loop-i .i) (c .loop-i .inv .0) (omega arith) (c .if-not-entries-i .left) (c .loop-i .inv .1))

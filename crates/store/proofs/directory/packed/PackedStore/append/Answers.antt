@@ -13,11 +13,14 @@ push-reserved-requires c κs = let s = c .args .self .now in let p = puttable s 
 
 pub ghost-self : need.ghost-self
 ghost-self c =
-  let s = c .args .self .now in
-  let p = puttable s (c .args .number) (c .args .bytes .now) (c .pre) in
-  ( listed-push _ _ _ _ _ (c .push-reserved .ensures .items) refl (s .listed) (p .admits)
-  , (packed-sums-same _ _ _ _ (c .write-at .ensures .len) (packed-sums-push _ _ _ _ _ _ (c .push-reserved .ensures .items) refl (s .sums) (p .within))
-  , (packed-area-same _ _ _ _ (c .push-reserved .ensures .capacity) (c .write-at .ensures .len) (s .bounds), tt)))
+    let s = c .args .self .now in
+    let p = puttable s (c .args .number) (c .args .bytes .now) (c .pre) in (
+      listed-push _ _ _ _ _ (c .push-reserved .ensures .items) refl (s .listed) (p .admits),
+      (
+        packed-sums-same _ _ _ _ (c .write-at .ensures .len) (packed-sums-push _ _ _ _ _ _ (c .push-reserved .ensures .items) refl (s .sums) (p .within)),
+        (packed-area-same _ _ _ _ (c .push-reserved .ensures .capacity) (c .write-at .ensures .len) (s .bounds), tt),
+      ),
+    )
 
 pub returns : need.returns
 returns c = let s = c .args .self .now in packed-put _ _ _ _ _ (c .args .bytes .now) (s .used) (vec-len (s .area)) _ (c .push-reserved .ensures .items) refl refl (s .sums) (s .area .ok .0) (c .write-at .ensures .len) (c .write-at .ensures .items)
