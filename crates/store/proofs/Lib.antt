@@ -9,3 +9,4 @@ pub mod Changes
 pub mod PackedMoves
 pub mod Cuts
 pub mod Answered
+pub mod Laid

@@ -4,3 +4,5 @@ pub mod Items
 pub mod Entries
 pub mod PackedSound
 pub mod Packed
+pub mod PagedSound
+pub mod Paged

@@ -10,6 +10,7 @@ ghost use Rattle.std.specs.Of.Vec.{vec-items, vec-len, vec-cap};
 ghost use Rattle.store.specs.Entries.{named, lowest, lower, offer, total, risen, blank, waits, Found, Part-found, Oldest, Newest, due};
 
 pub mod packed;
+pub mod paged;
 
 use crate::fault::StoreFault;
 
