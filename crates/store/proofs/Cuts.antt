@@ -62,3 +62,10 @@ cut-to s v w h = record { choices = bits s (length (v .pending)); each = length-
 pub polled-from : (i : ℕ) (v : StoreView) (r : Option ℕ) (w : StoreView) → Polled-at i v r w → Polled v r w
 polled-from i v None w h = h
 polled-from i v (Some n) w h = record { which = i; lands = h }
+
+-- the same, from where a step has come to
+pub cut-on-lands : (v x y w : StoreView) (b k n : ℕ) → x ≡ y → Lands v k n y → k ≡ 0 → b % 2 ≡ 1 → Cut-by (b / 2) x w → Cut-by b v w
+cut-on-lands v x y w b k n e l z o h = cut-lands v y w b n (subst (λ m. Lands v m n y) z l) o (subst (λ m. Cut-by (b / 2) m w) e h)
+
+pub cut-on-loses : (v x y w : StoreView) (b k : ℕ) → 0 < length (v .pending) → x ≡ y → y ≡ vanishing v k → k ≡ 0 → (b % 2 ≡ 1 → ⊥) → Cut-by (b / 2) x w → Cut-by b v w
+cut-on-loses v x y w b k p e q z o h = cut-loses v y w b p (q ∙ ap (vanishing v) z) o (subst (λ m. Cut-by (b / 2) m w) e h)

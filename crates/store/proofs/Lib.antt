@@ -6,7 +6,10 @@ pub mod Moves
 pub mod Scans
 pub mod Areas
 pub mod Changes
+pub mod Admission
 pub mod PackedMoves
 pub mod Cuts
 pub mod Answered
 pub mod Laid
+pub mod PageSteps
+pub mod PagedMoves

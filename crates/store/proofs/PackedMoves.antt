@@ -17,41 +17,18 @@ use Rattle.std.proofs.shelf.Lists.{length-append, length-drop, drop-drop}
 use Rattle.store.specs.declared.directory.Entry.{Entry}
 use Rattle.store.specs.declared.fault.StoreFault.{StoreFault}
 use Rattle.store.specs.Views.{StoreView}
-use Rattle.store.specs.Calls.{put-refusal, putting, lawful-length, deleting, vanishing, Lands, Cut-by}
-use Rattle.store.proofs.Answered.{some-pending}
-use Rattle.store.proofs.Cuts.{cut-lands, cut-loses}
+use Rattle.store.specs.Calls.{put-refusal, putting, lawful-length, deleting, vanishing}
 use Rattle.store.specs.Items.{Item, landed-of, pending-of, view}
 use Rattle.store.specs.Entries.{items, total, waits, named, tidy, due, Listed}
 use Rattle.std.specs.Of.Vec.{vec-items, vec-len, vec-cap}
 use Rattle.store.specs.declared.directory.packed.PackedStore.{PackedStore}
 use Rattle.store.specs.Packed.{packed}
 use Rattle.store.specs.PackedSound.{packed-room, packed-weight, Packed-sums, Packed-area}
-use Rattle.store.proofs.Listing.{has-numbered, weighed-all}
-use Rattle.store.proofs.Entered.{numbered-items, waits-items, weighs-items, total-append, waits-append}
-use Rattle.store.proofs.Tidy.{tidy-push, tidy-parts}
+use Rattle.store.proofs.Entered.{total-append}
+use Rattle.store.proofs.Admission.{Admitted, admitted, due-is, tidy-total}
 use Rattle.store.proofs.Areas.{before-written, at-written, closed-front, closed-back}
 use Rattle.store.proofs.Changes.{here, with-risen, total-split, total-risen, length-risen, total-removed, length-gone, Closes, deletes-at, vanishes-at, waits-split}
 use Rattle.store.proofs.Moves.{means, put-move}
-
--- what is known of a put that no refusal is due
-pub record Admitted (es : List Entry) (waiting n long : ℕ) (fits : Bool) : Type 0 where
-  pub lawful : lawful-length long ≡ true
-  pub some : 1 ≤ n
-  pub new : named es n ≡ false
-  pub few : waiting < 8
-  pub room : fits ≡ true
-
-pub admitted : (es : List Entry) (waiting n long : ℕ) (fits : Bool) → due es waiting n long fits ≡ None → Admitted es waiting n long fits
-admitted es waiting n long fits h = record { lawful = grind (arith, tells); some = grind (arith, tells); new = grind (arith, tells); few = grind (arith, tells); room = grind (arith, tells) }
-
--- the refusal by the directory's sums is the refusal by the meaning
-pub due-is : (room : ℕ → ℕ) (roomy : (n : ℕ) → n ≤ room n) (w : ℕ → ℕ) (c : ℕ) (es : List Entry) (a : List ℕ) (waiting n : ℕ) (bs : List ℕ) → waiting ≡ waits es → total room es ≤ length a
-    → due es waiting n (length bs) (leb (total w es + w (length bs)) c) ≡ put-refusal (view w c (items room es a)) n bs
-due-is room roomy w c es a waiting n bs hw hr =
-    let t = has-numbered (items room es a) n ∙ numbered-items room es a n in
-    let k = waits-items room es a in
-    let l = weighed-all w (items room es a) ∙ weighs-items room roomy w es a hr in
-    cc
 
 pub packed-total : (es : List Entry) → total packed-weight es ≡ total packed-room es + 12 * length es
 packed-total [] = refl
@@ -59,26 +36,6 @@ packed-total (e ∷ es) = let ih = packed-total es in omega arith
 
 pub packed-roomy : (n : ℕ) → n ≤ packed-room n
 packed-roomy n = omega arith
-
--- lawful entries have a byte each at least
-pub tidy-total : (f : ℕ → ℕ) → ((n : ℕ) → 1 ≤ n → 1 ≤ f n) → (es : List Entry) → tidy es ≡ true → length es ≤ total f es
-tidy-total f g [] h = omega arith
-tidy-total f g (e ∷ es) h =
-    let p = tidy-parts e es h in
-    let l : 1 ≤ e .length = leb-true 1 (e .length) (and-parts (leb 1 (e .length)) (leb (e .length) 16664) (p .1) .0) in
-    let k = g (e .length) l in
-    let ih = tidy-total f g es (p .3) in
-    omega arith
-
--- what a directory holds once a pending entry is added
-pub listed-push : (es fs : List Entry) (e : Entry) (waiting : ℕ) (fits : Bool) → fs ≡ es ++ e ∷ [] → e .landed ≡ false → Listed es waiting → Admitted es waiting (e .number) (e .length) fits → Listed fs (waiting + 1)
-listed-push es fs e waiting fits q f l h =
-    let t : tidy fs ≡ true = ap tidy q ∙ tidy-push es e (l .0) (h .new) (le-leb 1 (e .number) (h .some)) (h .lawful) in
-    let p : cond {A = ℕ} (e .landed) 0 1 ≡ 1 = ap (λ z. cond {A = ℕ} z 0 1) f in
-    let w : waits fs ≡ waits es + (cond {A = ℕ} (e .landed) 0 1 + 0) = ap waits q ∙ waits-append es (e ∷ []) in
-    let y = h .few in
-    let z = l .1 in
-    (t, omega arith, omega arith)
 
 -- a packed store before a put that no refusal is due
 pub record Putting (es : List Entry) (waiting used room long n k : ℕ) : Type 0 where
@@ -198,19 +155,3 @@ packed-taken-out s i start long e fs b h hs he hf hl hb =
       landed = λ f. ap (λ z. view packed-weight z (items packed-room fs b)) hl ∙ deletes-at packed-room packed-roomy packed-weight (vec-len (s .area)) es fs i a b l f hf (s .listed .0) k;
       pending = λ f. ap (λ z. view packed-weight z (items packed-room fs b)) hl ∙ vanishes-at packed-room packed-roomy packed-weight (vec-len (s .area)) es fs i a b l f hf k;
     }
-
-pub waits-here : (es : List Entry) (i waiting n : ℕ) (e : Entry) → i < length es → e ≡ here es i → Listed es waiting → n ≡ waits (e ∷ []) → n ≤ waiting
-waits-here es i waiting n e h q l k =
-    let w = waits-split es i h in
-    let z : waits (e ∷ []) ≡ waits (here es i ∷ []) = ap (λ y. waits (y ∷ [])) q in
-    let v = l .1 in
-    omega arith
-
--- a cut goes on from where the oldest has landed, or vanished
-pub packed-cut-lands : (s x y : PackedStore) (w : StoreView) (b k n : ℕ) → x ≡ y → Lands (packed s) k n (packed y) → k ≡ 0 → b % 2 ≡ 1 → Cut-by (b / 2) (packed x) w → Cut-by b (packed s) w
-packed-cut-lands s x y w b k n e l z o h = cut-lands (packed s) (packed y) w b n (subst (λ m. Lands (packed s) m n (packed y)) z l) o (subst (λ m. Cut-by (b / 2) (packed m) w) e h)
-
-pub packed-cut-loses : (s x y : PackedStore) (w : StoreView) (b i : ℕ) → i < length (vec-items (s .entries)) → here (vec-items (s .entries)) i .landed ≡ false → waits (take i (vec-items (s .entries))) ≡ 0 → x ≡ y
-    → packed y ≡ vanishing (packed s) (waits (take i (vec-items (s .entries)))) → (b % 2 ≡ 1 → ⊥) → Cut-by (b / 2) (packed x) w → Cut-by b (packed s) w
-packed-cut-loses s x y w b i l f z e q o h =
-    cut-loses (packed s) (packed y) w b (some-pending packed-room packed-roomy packed-weight (vec-len (s .area)) (vec-items (s .entries)) (vec-items (s .area)) i l f) (q ∙ ap (vanishing (packed s)) z) o (subst (λ m. Cut-by (b / 2) (packed m) w) e h)

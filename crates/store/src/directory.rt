@@ -7,6 +7,7 @@ ghost use lib.Dec.{eqb, leb};
 ghost use lib.ListN.{length, getD, take, drop};
 ghost use Rattle.std.specs.Holes.{removed};
 ghost use Rattle.std.specs.Of.Vec.{vec-items, vec-len, vec-cap};
+ghost use Rattle.store.specs.PagedSound.{pages};
 ghost use Rattle.store.specs.Entries.{named, lowest, lower, offer, total, risen, blank, waits, Found, Part-found, Oldest, Newest, due};
 
 pub mod packed;
@@ -187,4 +188,34 @@ fn bytes_before(entries: &[Entry], count: usize) -> usize
         sum += entries[i].length as usize;
     }
     sum
+}
+
+// Writes the bytes from `at` on.
+fn write_at(area: &mut Vec<u8>, at: usize, bytes: &[u8])
+    requires { ⌜ at + length (now bytes) ≤ vec-len (now area) ⌝ }
+    ensures items { λ _. ⌜ vec-items (now (area .exit)) ≡ take at (vec-items (now (area .entry))) ++ (now (bytes .entry) ++ drop (at + length (now (bytes .entry))) (vec-items (now (area .entry)))) ⌝ }
+    ensures len { λ _. ⌜ vec-len (now (area .exit)) ≡ vec-len (now (area .entry)) ⌝ }
+{
+    let end = at + bytes.len();
+    area[at..end].copy_from_slice(bytes);
+}
+
+// How many pages the objects of the first `count` entries have.
+fn pages_before(entries: &[Entry], count: usize) -> usize
+    requires within { ⌜ count ≤ length (now entries) ⌝ }
+    requires fits { ⌜ total pages (now entries) < 2 ^ 32 ⌝ }
+    ensures { λ r. ⌜ r ≡ total pages (take count (now (entries .entry))) ⌝ }
+{
+    let mut sum = 0;
+    for i in 0..count {
+        sum += page_count(entries[i].length);
+    }
+    sum
+}
+
+// How many pages so many bytes take.
+fn page_count(length: u32) -> usize
+    ensures { λ r. ⌜ r ≡ pages length ⌝ }
+{
+    (length as usize + 1023) / 1024
 }

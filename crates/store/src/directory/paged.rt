@@ -3,6 +3,8 @@ ghost use Rattle.std.specs.Of.Vec.{vec-items, vec-len, vec-cap};
 ghost use Rattle.store.specs.Entries.{Listed};
 ghost use Rattle.store.specs.PagedSound.{Paged-sums, Given-once, Paged-area};
 
+pub mod blocks;
+
 use crate::directory::Entry;
 
 // `order` lists every page once: those of the objects in turn, `used` of them, and then the free ones.

@@ -25,20 +25,11 @@ use crate::directory::pending_count;
 use crate::directory::raise;
 use crate::directory::refusal;
 use crate::directory::take_out;
+use crate::directory::write_at;
 use crate::fault::MakeFault;
 use crate::fault::MakeFromAlloc;
 use crate::fault::StoreFault;
 use std::alloc::Global;
-
-// Writes the bytes from `at` on.
-fn write_at(area: &mut Vec<u8>, at: usize, bytes: &[u8])
-    requires { ⌜ at + length (now bytes) ≤ vec-len (now area) ⌝ }
-    ensures items { λ _. ⌜ vec-items (now (area .exit)) ≡ take at (vec-items (now (area .entry))) ++ (now (bytes .entry) ++ drop (at + length (now (bytes .entry))) (vec-items (now (area .entry)))) ⌝ }
-    ensures len { λ _. ⌜ vec-len (now (area .exit)) ≡ vec-len (now (area .entry)) ⌝ }
-{
-    let end = at + bytes.len();
-    area[at..end].copy_from_slice(bytes);
-}
 
 impl PackedStore {
     // Whether an object of that length finds room.

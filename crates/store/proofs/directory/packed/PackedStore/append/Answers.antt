@@ -2,7 +2,8 @@ use mathlib.Core.Path.{refl, sym, _∙_}
 use Prim.Native.Nat.{_≤_, _<_}
 use native.Mathlib.Omega.{arith}
 use Rattle.std.specs.Of.Vec.{vec-items, vec-len, vec-cap}
-use Rattle.store.proofs.PackedMoves.{puttable, listed-push, packed-sums-push, packed-sums-same, packed-area-same, packed-put}
+use Rattle.store.proofs.PackedMoves.{puttable, packed-sums-push, packed-sums-same, packed-area-same, packed-put}
+use Rattle.store.proofs.Admission.{listed-push}
 use Rattle.store.proofs.directory.packed.PackedStore.append.Needs as need
 
 pub write-at-requires : need.write-at-requires

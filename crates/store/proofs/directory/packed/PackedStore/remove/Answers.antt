@@ -7,7 +7,8 @@ use Rattle.std.specs.Of.Vec.{vec-items, vec-len, vec-cap}
 use Rattle.store.specs.Entries.{waits, total}
 use Rattle.store.specs.PackedSound.{packed-room}
 use Rattle.store.proofs.Changes.{here, listed-removed, waits-split}
-use Rattle.store.proofs.PackedMoves.{packed-lies, packed-sums-removed, packed-sums-same, packed-area-same, packed-taken-out, waits-here}
+use Rattle.store.proofs.PackedMoves.{packed-lies, packed-sums-removed, packed-sums-same, packed-area-same, packed-taken-out}
+use Rattle.store.proofs.Admission.{waits-here}
 use Rattle.store.proofs.directory.packed.PackedStore.remove.Needs as need
 
 pub add-end : need.add-end

@@ -11,9 +11,8 @@ use Rattle.store.specs.Packed.{packed}
 use Rattle.store.specs.PackedSound.{packed-room, packed-weight}
 use Rattle.store.proofs.PackedMoves.{packed-roomy}
 use Rattle.store.proofs.Changes.{here}
-use Rattle.store.proofs.Cuts.{cut-none, cut-to}
-use Rattle.store.proofs.Answered.{none-pending}
-use Rattle.store.proofs.PackedMoves.{packed-cut-lands, packed-cut-loses}
+use Rattle.store.proofs.Cuts.{cut-none, cut-to, cut-on-lands, cut-on-loses}
+use Rattle.store.proofs.Answered.{none-pending, some-pending}
 use Rattle.store.proofs.directory.packed.PackedStore.settle.Needs as need
 use Rattle.store.proofs.directory.packed.PackedStore.settle.Needs.{then-bits-eq1, else-bits-eq1}
 
@@ -22,10 +21,11 @@ loop-i-again c =
     let s = c .loop-i .self in
     let i = c .in-Some .i in
     let o = subst (λ z. Oldest z (Some (c .in-Some .i))) (c .deref .ensures .value) (c .in-Some .ensures tt) in
+    let p = some-pending packed-room packed-roomy packed-weight (vec-len (s .area)) (vec-items (s .entries)) (vec-items (s .area)) i (o .0) (o .1) in
     λ v h. c .loop-i .inv v
     (elim (c .if-bits-eq1 .came) [
-      | then-bits-eq1 w ↦ packed-cut-lands s _ _ v (c .loop-i .bits) _ _ (w .self-is) (w .land .ensures .lands) (o .2) (w .if-bits-eq1 .taken) h
-      | else-bits-eq1 w ↦ packed-cut-loses s _ _ v (c .loop-i .bits) i (o .0) (o .1) (o .2) (w .self-is) (w .remove .ensures .pending (o .1)) (w .if-bits-eq1 .left) h
+      | then-bits-eq1 w ↦ cut-on-lands (packed s) _ _ v (c .loop-i .bits) _ _ (ap packed (w .self-is)) (w .land .ensures .lands) (o .2) (w .if-bits-eq1 .taken) h
+      | else-bits-eq1 w ↦ cut-on-loses (packed s) _ _ v (c .loop-i .bits) _ p (ap packed (w .self-is)) (w .remove .ensures .pending (o .1)) (o .2) (w .if-bits-eq1 .left) h
     ])
 
 pub returns : need.returns
