@@ -139,6 +139,20 @@ impl PackedStore {
         }
     }
 
+    // The lowest landed number from `from` on.
+    fn lowest_landed(&self, from: u32) -> Option<u32>
+        ensures { λ r. ⌜ r ≡ next-from (packed (now (self .entry)) .landed) from ⌝ }
+    {
+        lowest_from(&self.entries, from)
+    }
+
+    // How many puts are pending.
+    fn pending_puts(&self) -> u32
+        ensures { λ r. ⌜ r ≡ length (packed (now (self .entry)) .pending) ⌝ }
+    {
+        self.waiting
+    }
+
     // Removes a landed object.
     fn discard(&mut self, number: u32) -> Result<(), StoreFault>
         ensures { λ r. ⌜ Deleted (packed (now (self .entry))) number r (packed (now (self .exit))) ⌝ }
@@ -206,11 +220,11 @@ pub impl Store for PackedStore as PackedIsStore {
     }
 
     fn next(&self, from: u32) -> Option<u32> {
-        lowest_from(&self.entries, from)
+        self.lowest_landed(from)
     }
 
     fn waiting(&self) -> u32 {
-        self.waiting
+        self.pending_puts()
     }
 
     fn delete(&mut self, number: u32) -> Result<(), StoreFault> {

@@ -153,6 +153,20 @@ impl PagedStore {
         }
     }
 
+    // The lowest landed number from `from` on.
+    fn lowest_landed(&self, from: u32) -> Option<u32>
+        ensures { λ r. ⌜ r ≡ next-from (paged (now (self .entry)) .landed) from ⌝ }
+    {
+        lowest_from(&self.entries, from)
+    }
+
+    // How many puts are pending.
+    fn pending_puts(&self) -> u32
+        ensures { λ r. ⌜ r ≡ length (paged (now (self .entry)) .pending) ⌝ }
+    {
+        self.waiting
+    }
+
     // Removes a landed object.
     fn discard(&mut self, number: u32) -> Result<(), StoreFault>
         ensures { λ r. ⌜ Deleted (paged (now (self .entry))) number r (paged (now (self .exit))) ⌝ }
@@ -215,11 +229,11 @@ pub impl Store for PagedStore as PagedIsStore {
     }
 
     fn next(&self, from: u32) -> Option<u32> {
-        lowest_from(&self.entries, from)
+        self.lowest_landed(from)
     }
 
     fn waiting(&self) -> u32 {
-        self.waiting
+        self.pending_puts()
     }
 
     fn delete(&mut self, number: u32) -> Result<(), StoreFault> {
