@@ -1,0 +1,15 @@
+pub mod Placing
+pub mod Listing
+pub mod Entered
+pub mod Tidy
+pub mod Moves
+pub mod Scans
+pub mod Areas
+pub mod Changes
+pub mod Admission
+pub mod PackedMoves
+pub mod Cuts
+pub mod Answered
+pub mod Laid
+pub mod PageSteps
+pub mod PagedMoves
