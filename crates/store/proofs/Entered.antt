@@ -15,7 +15,8 @@ use Rattle.std.proofs.shelf.Lists.{drop-drop, take-take, drop-take, length-take
 use Rattle.store.specs.declared.directory.Entry.{Entry}
 use Rattle.store.specs.Views.{Object, has, bytes-of, place, without, next-from, weighed}
 use Rattle.store.specs.Items.{Item, landed-of, pending-of, view}
-use Rattle.store.specs.Entries.{item, items, total, waits, named, stored, lower, offer, lowest, tidy, risen}
+use Rattle.store.specs.Entries.{item, items, total, waits, named, stored, offer, lowest, tidy, risen}
+use Rattle.store.specs.Views.{lower, from-on}
 use Rattle.store.proofs.Placing.{has-place, next-place, bytes-place}
 use Rattle.store.proofs.Listing.{numbered, weighs}
 

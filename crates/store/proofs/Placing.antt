@@ -11,8 +11,7 @@ use Rattle.std.specs.declared.option.Option.{Option}
 use Rattle.std.specs.declared.option.Option.the-variants.{Some, None}
 use Rattle.std.proofs.shelf.Ways.{tells}
 use Rattle.std.proofs.shelf.Tests.{or-parts}
-use Rattle.store.specs.Views.{Object, has, bytes-of, place, without, next-from, weighed}
-use Rattle.store.specs.Entries.{lower}
+use Rattle.store.specs.Views.{Object, has, bytes-of, place, without, next-from, from-on, lower, weighed}
 
 pub bytes-place : (x : Object) (zs : List Object) (n : ℕ) → bytes-of (place x zs) n ≡ cond (eqb (x .0) n) (Some (x .1)) (bytes-of zs n)
 bytes-place x [] n = refl
@@ -26,9 +25,28 @@ pub weighed-place : (w : ℕ → ℕ) (x : Object) (zs : List Object) → weighe
 weighed-place w x [] = refl
 weighed-place w x (z ∷ zs) = let ih = weighed-place w x zs in grind (arith, tells)
 
-pub next-place : (x : Object) (zs : List Object) (n : ℕ) → next-from (place x zs) n ≡ lower (cond (leb n (x .0)) (Some (x .0)) None) (next-from zs n)
-next-place x [] n = grind (arith, tells)
-next-place x (z ∷ zs) n = let ih = next-place x zs n in grind (arith, tells)
+pub lower-assoc : (a b c : Option ℕ) → lower (lower a b) c ≡ lower a (lower b c)
+lower-assoc None b c = refl
+lower-assoc (Some x) None c = refl
+lower-assoc (Some x) (Some y) None = refl
+lower-assoc (Some x) (Some y) (Some z) = grind (arith, tells)
+
+pub lower-comm : (a b : Option ℕ) → lower a b ≡ lower b a
+lower-comm None None = refl
+lower-comm None (Some y) = refl
+lower-comm (Some x) None = refl
+lower-comm (Some x) (Some y) = grind (arith, tells)
+
+pub lower-swap : (a b c : Option ℕ) → lower a (lower b c) ≡ lower b (lower a c)
+lower-swap a b c = sym (lower-assoc a b c) ∙ ap (λ z. lower z c) (lower-comm a b) ∙ lower-assoc b a c
+
+pub next-place : (x : Object) (zs : List Object) (n : ℕ) → next-from (place x zs) n ≡ lower (from-on n (x .0)) (next-from zs n)
+next-place x [] n = refl
+next-place x (z ∷ zs) n = go (next-place x zs n) (ltb (z .0) (x .0))
+  where
+    go : next-from (place x zs) n ≡ lower (from-on n (x .0)) (next-from zs n) → (b : Bool) → next-from (cond b (z ∷ place x zs) (x ∷ (z ∷ zs))) n ≡ lower (from-on n (x .0)) (next-from (z ∷ zs) n)
+    go ih true = ap (lower (from-on n (z .0))) ih ∙ lower-swap (from-on n (z .0)) (from-on n (x .0)) (next-from zs n)
+    go ih false = refl
 
 pub place-comm : (x y : Object) (zs : List Object) → (x .0 ≡ y .0 → ⊥) → place x (place y zs) ≡ place y (place x zs)
 place-comm x y [] ne = grind (arith, tells)

@@ -13,7 +13,9 @@ use Rattle.std.proofs.shelf.Ways.{tells}
 use Rattle.std.proofs.shelf.Tests.{eq-eqb, ne-eqb, or-parts, and-left, and-right, cond-true, cond-false}
 use Rattle.std.proofs.shelf.Lists.{at-drop-more, at-drop-all, take-more, take-all, take-append-drop}
 use Rattle.store.specs.declared.directory.Entry.{Entry}
-use Rattle.store.specs.Entries.{blank, total, waits, named, stored, lower, offer, lowest}
+use Rattle.store.specs.Entries.{blank, total, waits, named, stored, offer, lowest}
+use Rattle.store.specs.Views.{lower}
+use Rattle.store.proofs.Placing.{lower-assoc}
 use Rattle.store.proofs.Entered.{waits-append, total-append}
 
 pub named-here : (xs : List Entry) (i n : ℕ) → i < length xs → getD xs i blank .number ≡ n → named (drop i xs) n ≡ named xs n → true ≡ named xs n
@@ -54,12 +56,6 @@ waits-back xs i k h e t inv =
     let b : cond {A = ℕ} (getD xs i blank .landed) 0 1 ≡ 0 = ap (λ z. cond {A = ℕ} z 0 1) t in
     let d : waits (drop (i + 1) xs) ≡ 0 = ap (λ z. waits (drop z xs)) e ∙ inv in
     omega arith
-
-pub lower-assoc : (a b c : Option ℕ) → lower (lower a b) c ≡ lower a (lower b c)
-lower-assoc None b c = refl
-lower-assoc (Some x) None c = refl
-lower-assoc (Some x) (Some y) None = refl
-lower-assoc (Some x) (Some y) (Some z) = grind (arith, tells)
 
 pub lower-none : (a : Option ℕ) → lower a None ≡ a
 lower-none None = refl

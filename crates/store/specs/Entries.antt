@@ -8,7 +8,7 @@ use lib.ListN.{length, take, drop, getD}
 use Rattle.std.specs.declared.option.Option.{Option}
 use Rattle.std.specs.declared.option.Option.the-variants.{Some, None}
 use Rattle.store.specs.declared.directory.Entry.{Entry}
-use Rattle.store.specs.Views.{Object}
+use Rattle.store.specs.Views.{Object, lower}
 use Rattle.store.specs.declared.fault.StoreFault.{StoreFault}
 use Rattle.store.specs.declared.fault.StoreFault.the-variants.{Length, Taken, Crowded, Full, Absent, PastEnd}
 use Rattle.std.specs.declared.result.Result.{Result}
@@ -44,12 +44,6 @@ named (e ∷ es) n = eqb (e .number) n || named es n
 abbrev pub stored : List Entry → ℕ → Bool
 stored [] n = false
 stored (e ∷ es) n = (e .landed && eqb (e .number) n) || stored es n
-
--- The lower of two numbers, where there are two.
-abbrev pub lower : Option ℕ → Option ℕ → Option ℕ
-lower None o = o
-lower (Some x) None = Some x
-lower (Some x) (Some y) = Some (cond (leb x y) x y)
 
 -- The number of a landed entry, if it is from n on.
 abbrev pub offer : Entry → ℕ → Option ℕ

@@ -54,10 +54,20 @@ abbrev pub without : List Object → ℕ → List Object
 without [] n = []
 without (x ∷ xs) n = cond (eqb (x .0) n) (without xs n) (x ∷ without xs n)
 
--- The lowest number from n on of an ascending list.
+-- The lower of two numbers, where there are two.
+abbrev pub lower : Option ℕ → Option ℕ → Option ℕ
+lower None o = o
+lower (Some x) None = Some x
+lower (Some x) (Some y) = Some (cond (leb x y) x y)
+
+-- A number, if it is from n on.
+abbrev pub from-on : ℕ → ℕ → Option ℕ
+from-on n x = cond (leb n x) (Some x) None
+
+-- The lowest number from n on.
 abbrev pub next-from : List Object → ℕ → Option ℕ
 next-from [] n = None
-next-from (x ∷ xs) n = cond (leb n (x .0)) (Some (x .0)) (next-from xs n)
+next-from (x ∷ xs) n = lower (from-on n (x .0)) (next-from xs n)
 
 -- What objects weigh together.
 abbrev pub weighed : (ℕ → ℕ) → List Object → ℕ

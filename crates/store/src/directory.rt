@@ -8,7 +8,8 @@ ghost use lib.ListN.{length, getD, take, drop};
 ghost use Rattle.std.specs.Holes.{removed};
 ghost use Rattle.std.specs.Of.Vec.{vec-items, vec-len, vec-cap};
 ghost use Rattle.store.specs.PagedSound.{pages};
-ghost use Rattle.store.specs.Entries.{named, lowest, lower, offer, total, risen, blank, waits, Found, Part-found, Oldest, Newest, due};
+ghost use Rattle.store.specs.Views.{lower};
+ghost use Rattle.store.specs.Entries.{named, lowest, offer, total, risen, blank, waits, Found, Part-found, Oldest, Newest, due};
 
 pub mod packed;
 pub mod paged;

@@ -1,6 +1,7 @@
 use mathlib.Core.Path.{_≡_}
 use lib.ListN.{drop}
-use Rattle.store.specs.Entries.{lowest, lower}
+use Rattle.store.specs.Views.{lower}
+use Rattle.store.specs.Entries.{lowest}
 use Rattle.store.proofs.directory.lowest_from.Given as given
 
 -- the best so far and what is left give the answer
