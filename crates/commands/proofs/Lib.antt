@@ -5,5 +5,3 @@ pub mod Turns
 pub mod Valued
 pub mod Cuts
 pub mod Readings
-pub mod Replies
-pub mod Buffered

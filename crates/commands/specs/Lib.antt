@@ -5,6 +5,4 @@ pub mod Elements
 pub mod Tokens
 pub mod Calls
 pub mod Reading
-pub mod Answers
 pub mod Printing
-pub mod Buffers

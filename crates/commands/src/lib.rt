@@ -1,4 +1,4 @@
-// Command lines: the tokens of a line, the call that a line means, and answer lines.
+// Command lines: the tokens of a line, and the call that a line asks for.
 ghost use mathlib.Core.Path.{_≡_};
 ghost use Prim.Native.Nat.{ℕ, _≤_, _<_};
 ghost use lib.ListN.{length, drop};
@@ -6,10 +6,7 @@ ghost use Rattle.std.specs.Options.{mapped};
 ghost use Rattle.std.specs.Slices.{found};
 ghost use Rattle.commands.specs.Numbers.{digit, numberIn};
 
-pub mod answer;
-pub mod buffer;
 pub mod call;
-pub mod line;
 pub mod list;
 pub mod print;
 pub mod token;

@@ -1,11 +1,11 @@
 // Reads command lines from standard input, and prints for each the call that it asks for, or that it is bad and where.
-use commands::answer::Answer;
-use commands::answer::AnswerDisplay;
-use commands::buffer::LineBuffer;
+use answers::Answer;
+use answers::AnswerDisplay;
 use commands::call::Call;
 use commands::list::ByteList;
 use commands::print::CallDisplay;
 use commands::token::reader::parse;
+use lines::buffer::LineBuffer;
 use std::io;
 use std::io::BufReader;
 use std::io::BufWriter;

@@ -7,12 +7,12 @@ use native.Mathlib.Omega.{arith}
 use lib.ListN.{length, getD, take, drop}
 use Rattle.std.specs.Written.{decimal}
 use Rattle.std.proofs.shelf.Lists.{take-more, take-all, map-push, append-nil, append-assoc}
 use Rattle.commands.specs.Grammar.{spaced}
 use Rattle.std.specs.shelf.Lists.{All}
 use Rattle.commands.specs.Numbers.{numberIn}
-use Rattle.commands.specs.Answers.{itemsText, verdict, replied, OneAnswer}
+use Rattle.answers.specs.Answers.{itemsText, verdict, replied, OneAnswer}
 use Rattle.commands.proofs.Figures.{Stops, some-same, number-back}
 use Rattle.commands.proofs.Listings.{spaced-end}
 
 spaced-push : (ts : List (List ℕ)) (t : List ℕ) → spaced (ts ++ t ∷ []) [] ≡ spaced ts [] ++ (32 ∷ t)
 spaced-push [] t = ap (λ l. 32 ∷ l) (append-nil t)

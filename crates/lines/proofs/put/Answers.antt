@@ -1,6 +1,6 @@
 use borrow.Author.Needs.{needs}
-use Rattle.commands.proofs.Buffered.{push-room, push-full}
-use Rattle.commands.proofs.line.put.Needs as need
+use Rattle.lines.proofs.Buffered.{push-room, push-full}
+use Rattle.lines.proofs.put.Needs as need
 
 pub returns-then-buffer-lt256 : need.returns-then-buffer-lt256
 returns-then-buffer-lt256 c = push-room (c .args .buffer .now .bytes) (c .args .buffer .now .count) (c .args .b) (search needs) (search needs)

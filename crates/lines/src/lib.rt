@@ -2,7 +2,10 @@
 ghost use mathlib.Core.Path.{_≡_};
 ghost use mathlib.Core.List.{[], _∷_, _++_};
 ghost use lib.ListN.{take};
-ghost use Rattle.commands.specs.Buffers.{held, FrontTells};
+ghost use Rattle.lines.specs.Buffers.{held, FrontTells};
+
+pub mod buffer;
+
 use crate::buffer::LineBuffer;
 
 // Puts one more byte into the buffer, if there is room.

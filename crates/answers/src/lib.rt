@@ -3,7 +3,7 @@ ghost use Rattle.std.specs.declared.option.Option.the-variants.{Some};
 ghost use mathlib.Core.Path.{_≡_};
 ghost use Rattle.std.specs.Of.String.{string-bytes};
 ghost use Rattle.std.specs.Vec.{made};
-ghost use Rattle.commands.specs.Answers.{numbersText, answerText, OneAnswer};
+ghost use Rattle.answers.specs.Answers.{numbersText, answerText, OneAnswer};
 use std::alloc::AllocError;
 use std::alloc::Global;
 use std::fmt;

@@ -6,9 +6,9 @@ use Prim.Native.Nat.{ℕ, _<_, _^_}
 use lib.Chars.{codes}
 use Rattle.std.specs.Written.{decimal}
 use Rattle.std.specs.shelf.Lists.{All}
-use Rattle.commands.specs.declared.answer.Answer.{Answer}
-use Rattle.commands.specs.declared.answer.Numbers.{Numbers}
+use Rattle.answers.specs.declared.Answer.{Answer}
+use Rattle.answers.specs.declared.Numbers.{Numbers}
 use Rattle.commands.specs.Grammar.{spaced}
 
 -- The word of an answer: ok where the call was granted, no where it was refused.
 abbrev pub verdict : Bool → List ℕ

@@ -4,8 +4,8 @@ use native.Mathlib.Omega.{arith}
 use borrow.Author.Needs.{needs}
 use lib.ListN.{length}
 use Rattle.std.proofs.Writes.{put-more, put-is}
-use Rattle.commands.proofs.Replies.{items-more, items-all}
-use Rattle.commands.proofs.answer.NumbersDisplay.fmt.Needs as need
+use Rattle.answers.proofs.Replies.{items-more, items-all}
+use Rattle.answers.proofs.NumbersDisplay.fmt.Needs as need
 
 pub loop-n-again : need.loop-n-again
 loop-n-again g c = λ p.

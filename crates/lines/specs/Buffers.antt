@@ -4,10 +4,10 @@ use mathlib.Core.List.{List, [], _∷_, _++_}
 use Prim.Native.Nat.{ℕ}
 use lib.ListN.{take}
 use Rattle.std.specs.declared.result.Result.{Result}
-use Rattle.commands.specs.declared.buffer.LineBuffer.{LineBuffer}
+use Rattle.lines.specs.declared.buffer.LineBuffer.{LineBuffer}
 use Rattle.commands.specs.declared.call.Call.{Call}
 use Rattle.commands.specs.declared.call.Bad.{Bad}
 use Rattle.commands.specs.Reading.{Parsed}
 
 -- The bytes that a buffer holds.
 abbrev pub held : LineBuffer → List ℕ

@@ -11,11 +11,11 @@ use Rattle.std.proofs.shelf.Lists.{append-nil, append-assoc, length-push, lengt
 use Rattle.std.proofs.shelf.Tests.{cases-lt, lt-leb}
 use Rattle.std.specs.declared.result.Result.{Result}
 use Rattle.std.specs.declared.result.Result.the-variants.{Ok, Err}
 use Rattle.commands.specs.declared.call.Call.{Call}
 use Rattle.commands.specs.declared.call.Bad.{Bad}
 use Rattle.commands.specs.Calls.{Asked, Asks}
 use Rattle.commands.specs.Reading.{Parsed, misfit, reading, leftOf}
-use Rattle.commands.specs.Buffers.{pushed, FrontTells}
+use Rattle.lines.specs.Buffers.{pushed, FrontTells}
 
 pub push-room : (xs : List ℕ) (n b : ℕ) → n < 256 → length xs ≡ 256 → take (n + 1) (set xs n b) ≡ take 256 (take n xs ++ b ∷ [])
 push-room xs n b h l =
