@@ -1,0 +1,6 @@
+pub mod Widths
+pub mod Lists
+pub mod Writings
+pub mod Tables
+pub mod Sound
+pub mod Loops
