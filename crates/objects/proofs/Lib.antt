@@ -4,3 +4,5 @@ pub mod Writings
 pub mod Tables
 pub mod Sound
 pub mod Loops
+pub mod Puts
+pub mod Ready

@@ -106,10 +106,13 @@ checkpoint-good blocks name bytes k kind s =
       says = says;
     }
 
-length-entry : (e : Entry) → length (entry-bytes e) ≡ 8
+pub length-header : (h : Header) → length (header-bytes h) ≡ 24
+length-header h = simp (length-append, length-le)
+
+pub length-entry : (e : Entry) → length (entry-bytes e) ≡ 8
 length-entry e = simp (length-append, length-le)
 
-length-extent : (x : Extent Place) → length (extent-bytes x) ≡ 16
+pub length-extent : (x : Extent Place) → length (extent-bytes x) ≡ 16
 length-extent x = simp (length-append, length-le)
 
 -- which kind bytes have that are sound

@@ -2,3 +2,4 @@ pub mod Layout
 pub mod Rules
 pub mod Seen
 pub mod Reading
+pub mod Building

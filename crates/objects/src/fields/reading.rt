@@ -4,30 +4,19 @@ ghost use lib.ListN.{length};
 ghost use mathlib.Core.Bool.{_&&_};
 ghost use mathlib.Core.Path.{_≡_};
 ghost use Prim.Native.Nat.{ℕ, _+_, _*_, _^_, _≤_};
-ghost use Rattle.objects.specs.Layout.{carrier-kind};
 ghost use Rattle.objects.specs.Reading.{Read, Read-checkpoint};
-ghost use Rattle.objects.specs.Rules.{disk-size, entry-fits, most-blocks};
-ghost use Rattle.objects.specs.Seen.{belongs, carrier-sound, chained, checkpoint-sound, entries-sum, entry-at, extent-at, follows, framed, header-at, kind-sound, listed, no-extent};
+ghost use Rattle.objects.specs.Seen.{belongs, carrier-sound, chained, checkpoint-sound, entries-sum, entry-at, extent-at, framed, header-at, kind-sound, listed, no-extent};
 use super::read_entry;
 use super::read_extent;
 use super::read_header;
 use crate::damaged::Damaged;
 use crate::entry::Carrier;
-use crate::entry::Entry;
+use crate::entry_fits;
+use crate::follows;
 use crate::header::Header;
+use crate::most_blocks;
 use extents::Extent;
 use extents::Place;
-use extents::PlaceTarget;
-use extents::Target;
-
-// Whether an entry keeps its rules.
-fn entry_fits(entry: Entry, most: u32, blocks: u32) -> bool
-    ensures { λ r. ⌜ r ≡ entry-fits most blocks entry ⌝ }
-{
-    entry.count >= 1
-        && entry.count <= most
-        && entry.address as u64 + entry.count as u64 <= blocks as u64
-}
 
 // Whether the entries keep their rules and have `tally` blocks together.
 fn entries_sum(bytes: &[u8], entries: u32, most: u32, blocks: u32, tally: u32) -> bool
@@ -43,21 +32,6 @@ fn entries_sum(bytes: &[u8], entries: u32, most: u32, blocks: u32, tally: u32) -
         sum += entry.count as u64;
     }
     sum == tally as u64
-}
-
-// Whether an extent keeps its rules, and may stand after `last`.
-fn follows(last: Extent<Place>, extent: Extent<Place>, number: u32, blocks: u32) -> bool
-    ensures { λ r. ⌜ r ≡ follows number blocks last extent ⌝ }
-{
-    let end = extent.first as u64 + extent.length as u64;
-    let last_end = last.first as u64 + last.length as u64;
-    let object = extent.target.object;
-    let inside = end <= blocks as u64 && object >= 1 && object < number;
-    let short = extent.target.offset as u64 + 512 * extent.length as u64 <= 65536;
-    let after = extent.length >= 1 && last_end <= extent.first as u64;
-    let joined = last_end == extent.first as u64
-        && last.target.leads_to(last.length, extent.target);
-    inside && short && after && !joined
 }
 
 // Whether the extents keep their rules, each after the one before.
@@ -81,16 +55,6 @@ fn extents_stand(bytes: &[u8], entries: u32, number: u32, blocks: u32) -> bool
         last = extent;
     }
     true
-}
-
-// How many blocks an entry may have.
-fn most_blocks(carrier: Carrier) -> u32
-    ensures { λ r. ⌜ r ≡ most-blocks carrier ⌝ }
-{
-    match carrier {
-        Carrier::Data => 8,
-        Carrier::Clean => 32,
-    }
 }
 
 // Whether the counts of an object that carries blocks are in range, and so many bytes are what they ask for.
