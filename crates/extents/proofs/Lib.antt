@@ -1,0 +1,11 @@
+pub mod Tables
+pub mod Reach
+pub mod Found
+pub mod Splice
+pub mod Joining
+pub mod Insertion
+pub mod Assembly
+pub mod Rooms
+pub mod Appending
+pub mod Sieving
+pub mod Worked
