@@ -6,3 +6,6 @@ pub mod Sound
 pub mod Loops
 pub mod Puts
 pub mod Ready
+pub mod Laying
+pub mod Setting
+pub mod Taking

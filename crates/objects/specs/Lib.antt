@@ -3,3 +3,4 @@ pub mod Rules
 pub mod Seen
 pub mod Reading
 pub mod Building
+pub mod Applying

@@ -9,6 +9,7 @@ use extents::Target;
 
 mod damaged;
 mod entry;
+mod fault;
 mod fields;
 mod header;
 mod laws;
@@ -17,10 +18,13 @@ mod states;
 pub use damaged::Damaged;
 pub use entry::Carrier;
 pub use entry::Entry;
+pub use fault::ApplyFault;
+
 pub use fields::questions::entry_of;
 pub use fields::questions::extent_of;
 pub use fields::questions::header_of;
 pub use fields::questions::payload_offset;
+pub use fields::reading::applying::apply;
 pub use fields::reading::read;
 pub use fields::reading::read_checkpoint;
 pub use header::Header;

@@ -18,6 +18,8 @@ use crate::most_blocks;
 use extents::Extent;
 use extents::Place;
 
+pub mod applying;
+
 // Whether the entries keep their rules and have `tally` blocks together.
 fn entries_sum(bytes: &[u8], entries: u32, most: u32, blocks: u32, tally: u32) -> bool
     requires { ⌜ 24 + 8 * entries ≤ length (now bytes) ⌝ ∗ ⌜ entries ≤ 32 ⌝ }
