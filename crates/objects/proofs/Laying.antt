@@ -31,7 +31,7 @@ some-none n e = let z : _≡_ {A = ℕ} 0 1 = cc in omega arith
 
 -- an insertion that is not to be refused is made
 pub insert-goes : (e : Extent Place) (m w : Rows Place) (r : Result (Unit {0}) MapFault) → extent-refusal place-advanced place-fits (m .blocks) e ≡ None → Inserted place-advanced place-same place-fits e m r w
-  → (w .blocks ≡ m .blocks) × ((b : ℕ) → places w b ≡ overlaid place-advanced e (places m) b)
+    → (w .blocks ≡ m .blocks) × ((b : ℕ) → places w b ≡ overlaid place-advanced e (places m) b)
 insert-goes e m w (Ok u) none h = (h .1, h .3)
 insert-goes e m w (Err f) none h = absurd (some-none (fault-number f) (sym (h .0) ∙ none))
 
@@ -57,8 +57,8 @@ laid-same number entries before (e ∷ es) f g same b =
 
 -- one entry more
 pub laid-more : (number entries before : ℕ) (es : List Entry) (i : ℕ) (e : Entry) (f g : ℕ → Option Place) → i < length es → getD es i e ≡ e
-  → ((b : ℕ) → g b ≡ overlaid place-advanced (extent (e .address) (e .count) (place number (payload-offset entries before))) f b)
-  → (b : ℕ) → laid number entries (before + e .count) (drop (i + 1) es) g b ≡ laid number entries before (drop i es) f b
+    → ((b : ℕ) → g b ≡ overlaid place-advanced (extent (e .address) (e .count) (place number (payload-offset entries before))) f b)
+    → (b : ℕ) → laid number entries (before + e .count) (drop (i + 1) es) g b ≡ laid number entries before (drop i es) f b
 laid-more number entries before es i e f g h is over b =
     laid-same number entries (before + e .count) (drop (i + 1) es) g (overlaid place-advanced (extent (e .address) (e .count) (place number (payload-offset entries before))) f) over b
     ∙ sym (left-more (λ l. laid number entries before l f b) es i e h is)
@@ -83,9 +83,9 @@ lay-small before es i e h is sum most = let more = total-more es i before e h is
 
 -- one more
 pub lay-more : (number entries before : ℕ) (es : List Entry) (i : ℕ) (e : Entry) (start m w : Rows Place) (r : Result (Unit {0}) MapFault)
-  → i < length es → getD es i e ≡ e → entries ≤ 32 → total es ≤ 32 → Lays number entries before es i start m
-  → Inserted place-advanced place-same place-fits (extent (e .address) (e .count) (place number (payload-offset entries before))) m r w
-  → Lays number entries (before + e .count) es (i + 1) start w
+    → i < length es → getD es i e ≡ e → entries ≤ 32 → total es ≤ 32 → Lays number entries before es i start m
+    → Inserted place-advanced place-same place-fits (extent (e .address) (e .count) (place number (payload-offset entries before))) m r w
+    → Lays number entries (before + e .count) es (i + 1) start w
 lay-more number entries before es i e start m w r h is few most l done =
     let p = fit-more (entry-fits 32 (m .blocks)) es i e h is (l .fit) in
     let small = lay-small before es i e h is (l .sum) most in

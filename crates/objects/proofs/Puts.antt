@@ -58,8 +58,8 @@ headed n m xs ys long = ap (λ k. take (k + m) (ys ++ drop n xs)) (sym long) ∙
 
 -- a part at the end of things that were put one after another
 pub put-thing : {X : Type 0} (enc : X → List ℕ) (step base : ℕ) → ((x : X) → length (enc x) ≡ step) → (things : List X) (i at : ℕ) (x : X) (xs mid after : List ℕ)
-  → i < length things → getD things i x ≡ x → base + step * length things ≤ length xs → at ≡ base + step * i
-  → mid ≡ putMid base (step * i) xs (joined enc (take i things)) → after ≡ putMid at step mid (enc x) → after ≡ putMid base (step * (i + 1)) xs (joined enc (take (i + 1) things))
+    → i < length things → getD things i x ≡ x → base + step * length things ≤ length xs → at ≡ base + step * i
+    → mid ≡ putMid base (step * i) xs (joined enc (take i things)) → after ≡ putMid at step mid (enc x) → after ≡ putMid base (step * (i + 1)) xs (joined enc (take (i + 1) things))
 put-thing enc step base each things i at x xs mid after h is room place first put =
     let front : length (take i things) ≡ i = length-take-le i things (omega arith) in
     let long : length (joined enc (take i things)) ≡ step * i = length-joined enc step each (take i things) ∙ ap (λ k. step * k) front in

@@ -33,20 +33,20 @@ table-front (suc n) (e ∷ es) t =
     let q = and-parts (may-follow place-advanced place-same e es) _ (p .1) in
     and-from _ _ (p .0) (and-from _ _ (follow-front n e es (q .0)) (table-front n es (q .1)))
   where
-  follow-front : (n : ℕ) (e : Extent Place) (es : List (Extent Place)) → may-follow place-advanced place-same e es ≡ true → may-follow place-advanced place-same e (take n es) ≡ true
-  follow-front zero e es f = refl
-  follow-front (suc n) e [] f = refl
-  follow-front (suc n) e (x ∷ xs) f = f
+    follow-front : (n : ℕ) (e : Extent Place) (es : List (Extent Place)) → may-follow place-advanced place-same e es ≡ true → may-follow place-advanced place-same e (take n es) ≡ true
+    follow-front zero e es f = refl
+    follow-front (suc n) e [] f = refl
+    follow-front (suc n) e (x ∷ xs) f = f
 
 -- an appending that is not to be refused is made
 append-goes : (x : Extent Place) (m w : Rows Place) (r : Result (Unit {0}) MapFault) → append-refusal place-advanced place-same place-fits (m .blocks) (table-of m) x ≡ None → Appended place-advanced place-same place-fits x m r w
-  → (w .blocks ≡ m .blocks) × (table-of w ≡ table-of m ++ x ∷ [])
+    → (w .blocks ≡ m .blocks) × (table-of w ≡ table-of m ++ x ∷ [])
 append-goes x m w (Ok u) none h = (h .1, h .2)
 append-goes x m w (Err f) none h = absurd (some-none (fault-number f) (sym (h .0) ∙ none))
 
 -- an extent that keeps the rules is not refused
 extent-goes : (x : Extent Place) (blocks : ℕ) (before : List (Extent Place)) → leb 1 (x .length) ≡ true → in-range place-advanced place-fits blocks x ≡ true → is-table place-advanced place-same (before ++ x ∷ []) ≡ true
-  → append-refusal place-advanced place-same place-fits blocks before x ≡ None
+    → append-refusal place-advanced place-same place-fits blocks before x ≡ None
 extent-goes x blocks before some range table =
     let low = leb-true 1 (x .length) some in
     let p = and-parts (leb (end x) blocks) _ range in
@@ -66,7 +66,7 @@ pub set-none : (xs : List (Extent Place)) (m : Rows Place) (blocks : ℕ) → ta
 set-none xs m blocks empty same table range = record { front = empty; blocks-stay = same; rest = table; range = range }
 
 pub set-more : (xs : List (Extent Place)) (i : ℕ) (x : Extent Place) (blocks : ℕ) (m w : Rows Place) (r : Result (Unit {0}) MapFault) → i < length xs → getD xs i x ≡ x
-  → is-table place-advanced place-same xs ≡ true → Sets xs i blocks m → Appended place-advanced place-same place-fits x m r w → Sets xs (i + 1) blocks w
+    → is-table place-advanced place-same xs ≡ true → Sets xs i blocks m → Appended place-advanced place-same place-fits x m r w → Sets xs (i + 1) blocks w
 set-more xs i x blocks m w r h is table s done =
     let t = and-parts (leb 1 (x .length)) _ (sym (left-more (is-table place-advanced place-same) xs i x h is) ∙ s .rest) in
     let u = and-parts (may-follow place-advanced place-same x (drop (i + 1) xs)) _ (t .1) in

@@ -41,7 +41,7 @@ pub record Headed (blocks name : ℕ) (bytes : List ℕ) : Type 0 where
   pub high : name < 2 ^ 32
 
 -- bytes are their header, their entries and what comes after
-whole : {X : Type 0} (enc : X → List ℕ) (thing : ℕ → X) (step n : ℕ) (bytes : List ℕ) → Bytes bytes → 24 ≤ length bytes → 24 + step * n ≤ length bytes
+pub whole : {X : Type 0} (enc : X → List ℕ) (thing : ℕ → X) (step n : ℕ) (bytes : List ℕ) → Bytes bytes → 24 ≤ length bytes → 24 + step * n ≤ length bytes
     → ((at : ℕ) → at + step ≤ length bytes → enc (thing at) ≡ take step (drop at bytes))
     → header-bytes (header-at bytes) ++ (joined enc (listed thing step n 24) ++ drop (24 + step * n) bytes) ≡ bytes
 whole enc thing step n bytes each room long back =
@@ -52,7 +52,7 @@ whole enc thing step n bytes each room long back =
     let b = take-append-drop 24 bytes in
     simp (h, j, d, a, b)
 
-pub carrier-good : (c : Carrier) (blocks name : ℕ) (bytes : List ℕ) → Headed blocks name bytes → field 4 0 bytes ≡ carrier-kind c → carrier-sound c blocks bytes ≡ true → Undamaged blocks name bytes (header-at bytes)
+unfoldable pub carrier-good : (c : Carrier) (blocks name : ℕ) (bytes : List ℕ) → Headed blocks name bytes → field 4 0 bytes ≡ carrier-kind c → carrier-sound c blocks bytes ≡ true → Undamaged blocks name bytes (header-at bytes)
 carrier-good c blocks name bytes k kind s =
     let n = field 4 16 bytes in
     let t = field 4 20 bytes in
@@ -80,7 +80,7 @@ carrier-good c blocks name bytes k kind s =
       says = says;
     }
 
-pub checkpoint-good : (blocks name : ℕ) (bytes : List ℕ) → Headed blocks name bytes → field 4 0 bytes ≡ 3 → checkpoint-sound name blocks bytes ≡ true → Undamaged blocks name bytes (header-at bytes)
+unfoldable pub checkpoint-good : (blocks name : ℕ) (bytes : List ℕ) → Headed blocks name bytes → field 4 0 bytes ≡ 3 → checkpoint-sound name blocks bytes ≡ true → Undamaged blocks name bytes (header-at bytes)
 checkpoint-good blocks name bytes k kind s =
     let n = field 4 16 bytes in
     let t = field 4 20 bytes in

@@ -2,11 +2,12 @@
 use mathlib.Core.Path.{_≡_, refl, sym, ap, subst, _∙_}
 use mathlib.Core.Bool.{Bool, true, false, cond, _&&_}
 use mathlib.Core.List.{List, [], _∷_}
+use mathlib.Core.Logic.{⊎-elim}
 use Prim.Native.Nat.{ℕ, _+_, _-_, _*_, _^_, _≤_, _<_}
 use native.Mathlib.Omega.{arith}
 use lib.Dec.{leb, ltb, eqb}
 use lib.ListN.{length}
-use Rattle.std.proofs.shelf.Tests.{and-parts, and-from, leb-true, ltb-true, eqb-true, le-leb, lt-ltb, eq-eqb, ne-eqb, both-ways}
+use Rattle.std.proofs.shelf.Tests.{and-parts, and-from, leb-true, ltb-true, eqb-true, le-leb, lt-ltb, eq-eqb, ne-eqb, both-ways, cases-lt}
 use Rattle.extents.specs.declared.extent.Extent.{Extent}
 use Rattle.extents.specs.declared.target.Place.{Place}
 use Rattle.extents.specs.declared.table.rows.Rows.{Rows}
@@ -121,14 +122,15 @@ third-kind blocks name bytes one two s =
     let rest : cond (eqb (field 4 0 bytes) 3) (checkpoint-sound name blocks bytes) false ≡ true = simp (a, b) at (kind-part blocks name bytes s) in
     last (eqb (field 4 0 bytes) 3) refl rest
   where
-  last : (t : Bool) → eqb (field 4 0 bytes) 3 ≡ t → cond t (checkpoint-sound name blocks bytes) false ≡ true → (field 4 0 bytes ≡ 3) × (checkpoint-sound name blocks bytes ≡ true)
-  last true e h = (eqb-true (field 4 0 bytes) 3 e, h)
-  last false e h = absurd (both-ways false refl h)
+    last : (t : Bool) → eqb (field 4 0 bytes) 3 ≡ t → cond t (checkpoint-sound name blocks bytes) false ≡ true → (field 4 0 bytes ≡ 3) × (checkpoint-sound name blocks bytes ≡ true)
+    last true e h = (eqb-true (field 4 0 bytes) 3 e, h)
+    last false e h = absurd (both-ways false refl h)
 
 -- an object that carries blocks was applied
 pub carrier-taken : (c : Carrier) (name records count : ℕ) (bytes : List ℕ) (m w : Rows Place) → Headed (m .blocks) name bytes → field 4 0 bytes ≡ carrier-kind c → carrier-sound c (m .blocks) bytes ≡ true
-  → count ≡ counted (carrier-at c bytes) records → w .blocks ≡ m .blocks
-  → ((b : ℕ) → places w b ≡ laid (field 4 4 bytes) (field 4 16 bytes) 0 (listed (entry-at bytes) 8 (field 4 16 bytes) 24) (places m) b) → Takes name bytes records m count w
+    → count ≡ counted (carrier-at c bytes) records → w .blocks ≡ m .blocks
+    → ((b : ℕ) → places w b ≡ laid (field 4 4 bytes) (field 4 16 bytes) 0 (listed (entry-at bytes) 8 (field 4 16 bytes) 24) (places m) b) → Takes name bytes records m count w
+unfolding carrier-good
 carrier-taken c name records count bytes m w k kind s counts same over =
     let u = carrier-good c (m .blocks) name bytes k kind s in
     let n = length-listed (entry-at bytes) 8 (field 4 16 bytes) 24 in
@@ -143,7 +145,8 @@ carrier-taken c name records count bytes m w k kind s counts same over =
 
 -- a checkpoint was applied
 pub checkpoint-taken : (name records : ℕ) (bytes : List ℕ) (m w : Rows Place) → Headed (m .blocks) name bytes → field 4 0 bytes ≡ 3 → checkpoint-sound name (m .blocks) bytes ≡ true
-  → w .blocks ≡ m .blocks → table-of w ≡ listed (extent-at bytes) 16 (field 4 16 bytes) 24 → Takes name bytes records m (field 8 8 bytes) w
+    → w .blocks ≡ m .blocks → table-of w ≡ listed (extent-at bytes) 16 (field 4 16 bytes) 24 → Takes name bytes records m (field 8 8 bytes) w
+unfolding checkpoint-good
 checkpoint-taken name records bytes m w k kind s same table =
     let u = checkpoint-good (m .blocks) name bytes k kind s in
     record {
@@ -157,8 +160,90 @@ checkpoint-taken name records bytes m w k kind s same table =
 
 -- a data object whose blocks do not fit the count
 pub data-overflows : (name records : ℕ) (bytes : List ℕ) (m : Rows Place) → Headed (m .blocks) name bytes → field 4 0 bytes ≡ 1 → carrier-sound Data (m .blocks) bytes ≡ true
-  → 2 ^ 64 ≤ records + field 4 20 bytes → Overflows name bytes records m
+    → 2 ^ 64 ≤ records + field 4 20 bytes → Overflows name bytes records m
+unfolding carrier-good
 data-overflows name records bytes m k kind s past =
     let u = carrier-good Data (m .blocks) name bytes k kind s in
     let sum = laying Data (m .blocks) bytes s .sum in
     record { object = carrier-at Data bytes; good = u .good; is = u .is; past = omega arith }
+
+-- the same, with the header that was read
+
+pub record LayFacts (h : Header) (blocks : ℕ) (bytes : List ℕ) : Type 0 where
+  pub few : h .entries ≤ 32
+  pub room : 24 + 8 * h .entries ≤ length bytes
+  pub fit : every (entry-fits 32 blocks) (listed (entry-at bytes) 8 (h .entries) 24) ≡ true
+  pub sum : total (listed (entry-at bytes) 8 (h .entries) 24) ≤ 32
+
+lay-facts : (c : Carrier) (h : Header) (blocks : ℕ) (bytes : List ℕ) → h ≡ header-at bytes → carrier-sound c blocks bytes ≡ true → LayFacts h blocks bytes
+lay-facts c h blocks bytes is s =
+    let l = laying c blocks bytes s in
+    subst (λ (x : Header). LayFacts x blocks bytes) (sym is) (record { few = l .few; room = l .room; fit = l .fit; sum = l .most })
+
+pub data-facts : (h : Header) (blocks : ℕ) (bytes : List ℕ) → h ≡ header-at bytes → h .kind ≡ 1 → sound blocks (h .number) bytes ≡ true → LayFacts h blocks bytes
+data-facts h blocks bytes is kind s = lay-facts Data h blocks bytes is (data-sound blocks (h .number) bytes (ap (λ x. x .kind) (sym is) ∙ kind) s)
+
+pub clean-facts : (h : Header) (blocks : ℕ) (bytes : List ℕ) → h ≡ header-at bytes → h .kind ≡ 2 → sound blocks (h .number) bytes ≡ true → LayFacts h blocks bytes
+clean-facts h blocks bytes is kind s = lay-facts Clean h blocks bytes is (clean-sound blocks (h .number) bytes (ap (λ x. x .kind) (sym is) ∙ kind) s)
+
+pub record SetFacts (h : Header) (blocks : ℕ) (bytes : List ℕ) : Type 0 where
+  pub few : h .entries ≤ 1024
+  pub room : 24 + 16 * h .entries ≤ length bytes
+  pub tabled : is-table place-advanced place-same (listed (extent-at bytes) 16 (h .entries) 24) ≡ true
+  pub ranged : all-in-range place-advanced place-fits blocks (listed (extent-at bytes) 16 (h .entries) 24) ≡ true
+
+pub set-facts : (h : Header) (blocks : ℕ) (bytes : List ℕ) → h ≡ header-at bytes → (h .kind ≡ 1 → ⊥) → (h .kind ≡ 2 → ⊥) → sound blocks (h .number) bytes ≡ true → SetFacts h blocks bytes
+set-facts h blocks bytes is one two s =
+    let kind = ap (λ x. x .kind) is in
+    let k = third-kind blocks (h .number) bytes (λ e. one (kind ∙ e)) (λ e. two (kind ∙ e)) s in
+    let t = setting (h .number) blocks bytes (k .1) in
+    subst (λ (x : Header). SetFacts x blocks bytes) (sym is) (record { few = t .few; room = t .room; tabled = t .tabled; ranged = t .range })
+
+pub data-taken : (h : Header) (records count : ℕ) (bytes : List ℕ) (m w : Rows Place) → Bytes bytes → h .number < 2 ^ 32 → h ≡ header-at bytes → h .kind ≡ 1 → sound (m .blocks) (h .number) bytes ≡ true
+    → count ≡ records + h .tally → w .blocks ≡ m .blocks → ((b : ℕ) → places w b ≡ laid (h .number) (h .entries) 0 (listed (entry-at bytes) 8 (h .entries) 24) (places m) b) → Takes (h .number) bytes records m count w
+data-taken h records count bytes m w each high is =
+    subst (λ (x : Header). x .number < 2 ^ 32 → x .kind ≡ 1 → sound (m .blocks) (x .number) bytes ≡ true → count ≡ records + x .tally → w .blocks ≡ m .blocks
+    → ((b : ℕ) → places w b ≡ laid (x .number) (x .entries) 0 (listed (entry-at bytes) 8 (x .entries) 24) (places m) b) → Takes (x .number) bytes records m count w)
+    (sym is)
+    (λ high kind s counts same over.
+    let cs = data-sound (m .blocks) (field 4 4 bytes) bytes kind s in
+    carrier-taken Data (field 4 4 bytes) records count bytes m w (headed (m .blocks) (field 4 4 bytes) bytes each high s) kind cs (counts ∙ ap (λ n. records + n) (sym (laying Data (m .blocks) bytes cs .sum))) same over)
+    high
+
+pub clean-taken : (h : Header) (records : ℕ) (bytes : List ℕ) (m w : Rows Place) → Bytes bytes → h .number < 2 ^ 32 → h ≡ header-at bytes → h .kind ≡ 2 → sound (m .blocks) (h .number) bytes ≡ true
+    → w .blocks ≡ m .blocks → ((b : ℕ) → places w b ≡ laid (h .number) (h .entries) 0 (listed (entry-at bytes) 8 (h .entries) 24) (places m) b) → Takes (h .number) bytes records m records w
+clean-taken h records bytes m w each high is =
+    subst (λ (x : Header). x .number < 2 ^ 32 → x .kind ≡ 2 → sound (m .blocks) (x .number) bytes ≡ true → w .blocks ≡ m .blocks
+    → ((b : ℕ) → places w b ≡ laid (x .number) (x .entries) 0 (listed (entry-at bytes) 8 (x .entries) 24) (places m) b) → Takes (x .number) bytes records m records w)
+    (sym is)
+    (λ high kind s same over.
+    carrier-taken Clean (field 4 4 bytes) records records bytes m w (headed (m .blocks) (field 4 4 bytes) bytes each high s) kind (clean-sound (m .blocks) (field 4 4 bytes) bytes kind s) refl same over)
+    high
+
+pub table-taken : (h : Header) (records : ℕ) (bytes : List ℕ) (m w : Rows Place) → Bytes bytes → h .number < 2 ^ 32 → h ≡ header-at bytes → (h .kind ≡ 1 → ⊥) → (h .kind ≡ 2 → ⊥) → sound (m .blocks) (h .number) bytes ≡ true
+    → w .blocks ≡ m .blocks → table-of w ≡ listed (extent-at bytes) 16 (h .entries) 24 → Takes (h .number) bytes records m (h .first) w
+table-taken h records bytes m w each high is =
+    subst (λ (x : Header). x .number < 2 ^ 32 → (x .kind ≡ 1 → ⊥) → (x .kind ≡ 2 → ⊥) → sound (m .blocks) (x .number) bytes ≡ true → w .blocks ≡ m .blocks
+    → table-of w ≡ listed (extent-at bytes) 16 (x .entries) 24 → Takes (x .number) bytes records m (x .first) w)
+    (sym is)
+    (λ high one two s same table.
+    let k = third-kind (m .blocks) (field 4 4 bytes) bytes one two s in
+    checkpoint-taken (field 4 4 bytes) records bytes m w (headed (m .blocks) (field 4 4 bytes) bytes each high s) (k .0) (k .1) same table)
+    high
+
+pub data-past : (h : Header) (records : ℕ) (bytes : List ℕ) (m : Rows Place) → Bytes bytes → h .number < 2 ^ 32 → h ≡ header-at bytes → h .kind ≡ 1 → sound (m .blocks) (h .number) bytes ≡ true
+    → (records + h .tally < 2 ^ 64 → ⊥) → Overflows (h .number) bytes records m
+data-past h records bytes m each high is =
+    subst (λ (x : Header). x .number < 2 ^ 32 → x .kind ≡ 1 → sound (m .blocks) (x .number) bytes ≡ true → (records + x .tally < 2 ^ 64 → ⊥) → Overflows (x .number) bytes records m)
+    (sym is)
+    (λ high kind s past.
+    let far : 2 ^ 64 ≤ records + field 4 20 bytes = ⊎-elim (λ l. absurd (past l)) (λ l. l) (cases-lt (records + field 4 20 bytes) (2 ^ 64)) in
+    data-overflows (field 4 4 bytes) records bytes m (headed (m .blocks) (field 4 4 bytes) bytes each high s) kind (data-sound (m .blocks) (field 4 4 bytes) bytes kind s) far)
+    high
+
+-- what the examination hands on
+pub sound-by : (blocks name : ℕ) (bytes : List ℕ) (h : Header) → h ≡ header-at bytes → framed blocks bytes ≡ true → belongs h name blocks bytes ≡ true → (h .number ≡ name) × (sound blocks (h .number) bytes ≡ true)
+sound-by blocks name bytes h is f b =
+    let n : h .number ≡ name = eqb-true (h .number) name (and-parts (eqb (h .number) name) _ b .0) in
+    let whole : sound blocks name bytes ≡ true = and-from _ _ f (ap (λ x. belongs x name blocks bytes) (sym is) ∙ b) in
+    (n, ap (λ k. sound blocks k bytes) n ∙ whole)

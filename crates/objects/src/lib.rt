@@ -19,7 +19,6 @@ pub use damaged::Damaged;
 pub use entry::Carrier;
 pub use entry::Entry;
 pub use fault::ApplyFault;
-
 pub use fields::questions::entry_of;
 pub use fields::questions::extent_of;
 pub use fields::questions::header_of;
@@ -49,7 +48,9 @@ fn most_blocks(carrier: Carrier) -> u32
 fn entry_fits(entry: Entry, most: u32, blocks: u32) -> bool
     ensures { λ r. ⌜ r ≡ entry-fits most blocks entry ⌝ }
 {
-    entry.count >= 1 && entry.count <= most && entry.address as u64 + entry.count as u64 <= blocks as u64
+    entry.count >= 1
+        && entry.count <= most
+        && entry.address as u64 + entry.count as u64 <= blocks as u64
 }
 
 // Whether an extent keeps its rules, and may stand after `last`.

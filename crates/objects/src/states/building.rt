@@ -16,8 +16,8 @@ use super::put_header;
 use crate::entry::Carrier;
 use crate::entry::Entry;
 use crate::entry_fits;
-use crate::most_blocks;
 use crate::header::Header;
+use crate::most_blocks;
 use bytes::put_part;
 use bytes::put_u32;
 
@@ -138,10 +138,21 @@ impl Filled {
         } = self;
         let good = may_add(draft, added, block, buf);
         if good {
-            put_part(buf, 24 + 8 * draft.entries as usize + 512 * added as usize, block);
+            put_part(
+                buf,
+                24 + 8 * draft.entries as usize + 512 * added as usize,
+                block,
+            );
             added += 1;
         }
-        (Filled { token, draft, added }, good)
+        (
+            Filled {
+                token,
+                draft,
+                added,
+            },
+            good,
+        )
     }
 
     // Writes the header, and so ends the object; one that lacks blocks is handed back.
@@ -154,7 +165,11 @@ impl Filled {
             added,
         } = self;
         if !may_close(draft, added, buf) {
-            return Err(Filled { token, draft, added });
+            return Err(Filled {
+                token,
+                draft,
+                added,
+            });
         }
         put_header(buf, draft_header(token.number, draft));
         let length = 24 + 8 * draft.entries as usize + 512 * draft.tally as usize;
@@ -206,7 +221,7 @@ impl Closed {
     pub fn withdraw(self, numbers: &mut Numbers)
         ensures { λ _. ⌜ now (numbers .exit) ≡ after-number (self .token .number - 1) ⌝ }
     {
-        let Closed { token, length: _ } = self;
+        let Closed { length: _, token } = self;
         token.withdraw(numbers)
     }
 }

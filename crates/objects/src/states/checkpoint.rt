@@ -72,7 +72,13 @@ fn ready(number: u32, first: u64, table: &[Extent<Place>], blocks: u32, buf: &[u
 }
 
 // The checkpoint of a table, in the buffer.
-fn built(token: NumberToken, buf: &mut [u8], first: u64, table: &[Extent<Place>], blocks: u32) -> Result<Closed, NumberToken>
+fn built(
+    token: NumberToken,
+    buf: &mut [u8],
+    first: u64,
+    table: &[Extent<Place>],
+    blocks: u32,
+) -> Result<Closed, NumberToken>
     ensures { λ r. ⌜ Checkpoints token first blocks (now (table .entry)) (now (buf .entry)) r (now (buf .exit)) ⌝ }
 {
     if !ready(token.number, first, table, blocks, buf) {
@@ -93,7 +99,13 @@ fn built(token: NumberToken, buf: &mut [u8], first: u64, table: &[Extent<Place>]
 
 impl NumberToken {
     // The checkpoint of a map's table on a disk of so many blocks, complete in the buffer; a table that breaks a rule is refused.
-    pub fn checkpoint(self, buf: &mut [u8], first: u64, table: &[Extent<Place>], blocks: u32) -> Result<Closed, NumberToken>
+    pub fn checkpoint(
+        self,
+        buf: &mut [u8],
+        first: u64,
+        table: &[Extent<Place>],
+        blocks: u32,
+    ) -> Result<Closed, NumberToken>
         ensures { λ r. ⌜ Checkpoints self first blocks (now (table .entry)) (now (buf .entry)) r (now (buf .exit)) ⌝ }
     {
         built(self, buf, first, table, blocks)

@@ -17,7 +17,8 @@ impl Numbers {
     pub fn last(&self) -> u32
         ensures { λ r. ⌜ r ≡ now (self .entry) .last ⌝ }
     {
-        self.last
+        let last = self.last;
+        last
     }
 
     // The next number, unless none is left.
@@ -33,13 +34,6 @@ impl Numbers {
 }
 
 impl NumberToken {
-    // The number.
-    pub fn number(&self) -> u32
-        ensures { λ r. ⌜ r ≡ now (self .entry) .number ⌝ }
-    {
-        self.number
-    }
-
     // Frees the number: it is the next to be taken again.
     pub fn withdraw(self, numbers: &mut Numbers)
         ensures { λ _. ⌜ now (numbers .exit) ≡ after-number (self .number - 1) ⌝ }

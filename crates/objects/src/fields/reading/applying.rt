@@ -58,7 +58,12 @@ fn set_table(bytes: &[u8], entries: u32, map: &mut PlaceMap)
 }
 
 // Applies an object that is undamaged.
-fn take_in(bytes: &[u8], header: Header, map: &mut PlaceMap, records: u64) -> Result<u64, ApplyFault>
+fn take_in(
+    bytes: &[u8],
+    header: Header,
+    map: &mut PlaceMap,
+    records: u64,
+) -> Result<u64, ApplyFault>
     requires read { ⌜ header ≡ header-at (now bytes) ⌝ }
     requires good { ⌜ sound (now map .rows .blocks) (header .number) (now bytes) ≡ true ⌝ }
     ensures { λ r. ⌜ Applies (header .number) (now (bytes .entry)) records (now (map .entry) .rows) r (now (map .exit) .rows) ⌝ }
@@ -83,7 +88,12 @@ fn take_in(bytes: &[u8], header: Header, map: &mut PlaceMap, records: u64) -> Re
 }
 
 // Applies an object, or refuses bytes that are none.
-fn examine_and_take(bytes: &[u8], name: u32, map: &mut PlaceMap, records: u64) -> Result<u64, ApplyFault>
+fn examine_and_take(
+    bytes: &[u8],
+    name: u32,
+    map: &mut PlaceMap,
+    records: u64,
+) -> Result<u64, ApplyFault>
     ensures { λ r. ⌜ Applies name (now (bytes .entry)) records (now (map .entry) .rows) r (now (map .exit) .rows) ⌝ }
 {
     let blocks = map.blocks();

@@ -15,6 +15,8 @@ returns c =
     let high : c .args .token .number < 2 ^ 32 = search needs in
     let is = ready-is (c .args .token .number) (c .args .first) (c .args .blocks) (c .args .table .now) (c .args .buf .now) high in
     let good = sym (c .ready .ensures) ∙ c .if-not-ready .left in
-    let room = ready-room (c .args .token .number) (c .args .first) (c .args .blocks) (c .args .table .now) (c .args .buf .now) good in
-    (sym is ∙ good, refl,
-     checkpoint-built (c .args .token .number) (c .args .first) (c .args .blocks) (c .args .table .now) (c .args .buf .now) _ _ room (c .put-header .ensures) (c .put-table .ensures))
+    let room = ready-room (c .args .token .number) (c .args .first) (c .args .blocks) (c .args .table .now) (c .args .buf .now) good in (
+      sym is ∙ good,
+      refl,
+      checkpoint-built (c .args .token .number) (c .args .first) (c .args .blocks) (c .args .table .now) (c .args .buf .now) _ _ room (c .put-header .ensures) (c .put-table .ensures),
+    )
