@@ -9,3 +9,4 @@ pub mod Ready
 pub mod Laying
 pub mod Setting
 pub mod Taking
+pub mod Built

@@ -235,6 +235,10 @@ table-read bytes is = ap table-of is
     table-of (carrier c number first es payload) = []
     table-of (checkpoint number first size table) = table
 
+-- the tables of equal checkpoints are equal
+pub table-same : {number first size : ℕ} {xs ys : List (Extent Place)} → checkpoint number first size xs ≡ checkpoint number first size ys → xs ≡ ys
+table-same is = cc
+
 -- every valid object is read as it was written
 pub object-read : (blocks name : ℕ) (o : Object) (bytes : List ℕ) → valid blocks name o ≡ true → bytes ≡ written o → object-at bytes ≡ o
 object-read blocks name (carrier c number first es payload) bytes good is =

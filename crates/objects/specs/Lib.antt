@@ -4,3 +4,4 @@ pub mod Seen
 pub mod Reading
 pub mod Building
 pub mod Applying
+pub mod Laws

@@ -27,6 +27,8 @@ pub use fields::reading::applying::apply;
 pub use fields::reading::read;
 pub use fields::reading::read_checkpoint;
 pub use header::Header;
+pub use laws::built_objects_stand;
+pub use laws::one_map;
 pub use laws::one_object;
 pub use states::Begun;
 pub use states::Closed;

@@ -182,10 +182,10 @@ impl Filled {
     {
         let Filled {
             token,
-            draft: _,
+            draft,
             added: _,
         } = self;
-        token.withdraw(numbers)
+        Begun { token, draft }.withdraw(numbers)
     }
 }
 
