@@ -1,4 +1,4 @@
-// The same log of 64 slots filled and scanned as in log.rattle, in plain Rust.
+// The same log of 64 slots filled, flushed, cut and scanned as in log.rattle, in plain Rust.
 const SLOT: usize = 528;
 
 struct Drive {
@@ -23,6 +23,15 @@ impl Drive {
 
     fn flush(&mut self) {
         self.safe.copy_from_slice(&self.current);
+    }
+
+    fn cut(&mut self, kept: u64) {
+        for (i, (safe, current)) in self.safe.iter_mut().zip(&self.current).enumerate() {
+            if i < 64 && kept >> i & 1 == 1 {
+                *safe = *current;
+            }
+        }
+        self.current.copy_from_slice(&self.safe);
     }
 }
 
@@ -103,8 +112,7 @@ fn main() {
             left -= n;
         }
         drive.flush();
-        // else the compiler sees that the safe slots are never read, and leaves the flush out
-        std::hint::black_box(&drive.safe);
+        drive.cut(0);
         let end = scan(&drive, 1024, first, 64, &mut found);
         sum = sum.wrapping_mul(31).wrapping_add(end + found.len() as u64);
         for w in &found {

@@ -1,0 +1,12 @@
+pub mod Widths
+pub mod Lists
+pub mod Writings
+pub mod Tables
+pub mod Sound
+pub mod Loops
+pub mod Puts
+pub mod Ready
+pub mod Laying
+pub mod Setting
+pub mod Taking
+pub mod Built
