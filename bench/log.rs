@@ -112,7 +112,7 @@ fn main() {
             left -= n;
         }
         drive.flush();
-        drive.cut(0);
+        drive.cut(sum);
         let end = scan(&drive, 1024, first, 64, &mut found);
         sum = sum.wrapping_mul(31).wrapping_add(end + found.len() as u64);
         for w in &found {

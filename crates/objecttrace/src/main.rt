@@ -1,25 +1,165 @@
 // Builds, reads, breaks and applies objects of each kind, and shows what comes of it.
-use build::Plan;
-use build::carry;
-use build::check;
 use extents::Extent;
 use extents::Place;
 use objects::Carrier;
+use objects::Closed;
 use objects::Entry;
 use objects::Numbers;
-use show::Change;
-use show::made;
-use show::show;
-use show::tell;
-use show::tell_changes;
+use objects::read;
 use std::io;
 use std::io::BufWriter;
 use std::io::Write;
 
-mod build;
-mod show;
-
 const ROOM: usize = 16664;
+
+// What an object that carries blocks is built of: payload block i, from 0, is filled with the byte i + 1.
+#[derive(Clone, Copy)]
+struct Plan {
+    carrier: Carrier,
+    first: u64,
+    blocks: u32,
+    total: u8,
+}
+
+// Builds an object of the entries and puts it, and answers how many bytes it has; one that is refused is withdrawn and has none.
+fn carry(buf: &mut [u8], numbers: &mut Numbers, plan: Plan, entries: &[Entry]) -> usize {
+    let Some(token) = numbers.take() else {
+        return 0;
+    };
+    let mut begun = token.begin(plan.carrier, plan.first, plan.blocks);
+    for entry in entries {
+        let (next, _) = begun.add(buf, *entry);
+        begun = next;
+    }
+    let mut filled = begun.fill();
+    for i in 0..plan.total {
+        let block = [i.wrapping_add(1); 512];
+        let (next, _) = filled.add(buf, &block);
+        filled = next;
+    }
+    match filled.close(buf) {
+        Ok(closed) => put(closed, buf),
+        Err(open) => {
+            open.withdraw(numbers);
+            0
+        }
+    }
+}
+
+// Builds a checkpoint of the table and puts it, and answers how many bytes it has.
+fn check(
+    buf: &mut [u8],
+    numbers: &mut Numbers,
+    first: u64,
+    table: &[Extent<Place>],
+    blocks: u32,
+) -> usize {
+    let Some(token) = numbers.take() else {
+        return 0;
+    };
+    match token.checkpoint(buf, first, table, blocks) {
+        Ok(closed) => put(closed, buf),
+        Err(token) => {
+            token.withdraw(numbers);
+            0
+        }
+    }
+}
+
+// Puts an object that is closed.
+fn put(closed: Closed, buf: &[u8]) -> usize {
+    let size = closed.bytes(buf).len();
+    let _number = closed.put();
+    size
+}
+
+// A byte, and how often it stands there.
+fn show_run<W: Write>(out: &mut W, byte: u8, count: u32) -> io::Result<()> {
+    if count == 1 {
+        write!(out, " {byte}")
+    } else {
+        write!(out, " {byte}x{count}")
+    }
+}
+
+// Bytes in decimal, equal ones together.
+fn show<W: Write>(out: &mut W, bytes: &[u8]) -> io::Result<()> {
+    let mut last: u8 = 0;
+    let mut count: u32 = 0;
+    for byte in bytes {
+        if count > 0 && *byte == last {
+            count = count.saturating_add(1);
+        } else {
+            if count > 0 {
+                show_run(out, last, count)?;
+            }
+            last = *byte;
+            count = 1;
+        }
+    }
+    if count > 0 {
+        show_run(out, last, count)?;
+    }
+    writeln!(out, "")
+}
+
+// What reading answers.
+fn tell<W: Write>(
+    out: &mut W,
+    label: &str,
+    bytes: &[u8],
+    name: u32,
+    blocks: u32,
+) -> io::Result<()> {
+    match read(bytes, name, blocks) {
+        Ok(header) => {
+            let kind = header.kind;
+            let first = header.first;
+            let entries = header.entries;
+            let tally = header.tally;
+            writeln!(
+                out,
+                "{label}: kind {kind}, first record {first}, entries {entries}, tally {tally}"
+            )
+        }
+        Err(_) => writeln!(out, "{label}: damaged"),
+    }
+}
+
+// One byte that is made another, and the name that the object is read under.
+#[derive(Clone, Copy)]
+struct Change {
+    at: usize,
+    value: u8,
+    name: u32,
+}
+
+// A byte that is made another.
+fn made(at: usize, value: u8, name: u32) -> Change {
+    Change { at, value, name }
+}
+
+// What reading answers where one byte is another.
+fn tell_change<W: Write>(out: &mut W, bytes: &mut [u8], change: Change) -> io::Result<()> {
+    let Change { at, value, name } = change;
+    if at >= bytes.len() {
+        return writeln!(out, "no byte {at}");
+    }
+    let old = bytes[at];
+    bytes[at] = value;
+    write!(out, "byte {at} is {value}, ")?;
+    tell(out, "read", bytes, name, 8)?;
+    bytes[at] = old;
+    Ok(())
+}
+
+// What reading answers for each of the changes.
+fn tell_changes<W: Write>(out: &mut W, bytes: &mut [u8], changes: &[Change]) -> io::Result<()> {
+    for i in 0..changes.len() {
+        tell_change(out, bytes, changes[i])?;
+    }
+    Ok(())
+}
 
 // An extent of places.
 fn extent(first: u32, length: u32, object: u32, offset: u32) -> Extent<Place> {
