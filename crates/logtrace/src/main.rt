@@ -114,30 +114,10 @@ fn torn(rt: &LibcRuntime) -> io::Result<()> {
         return println!(rt, "no drive");
     };
     put(rt, &mut drive, 0, 2, 1024)?;
-    poke(
-        rt,
-        &mut drive,
-        2,
-        Head {
-            number: 2,
-            address: 5,
-            index: 0,
-            count: 2,
-        },
-    )?;
+    poke(rt, &mut drive, 2, head(2, 5, 0, 2))?;
     show(rt, &drive, 8, 0, 4, &mut found)?;
     show(rt, &drive, 8, 2, 4, &mut found)?;
-    poke(
-        rt,
-        &mut drive,
-        3,
-        Head {
-            number: 3,
-            address: 6,
-            index: 1,
-            count: 2,
-        },
-    )?;
+    poke(rt, &mut drive, 3, head(3, 6, 1, 2))?;
     show(rt, &drive, 8, 0, 4, &mut found)
 }
 
@@ -160,6 +140,16 @@ fn limits(rt: &LibcRuntime) -> io::Result<()> {
     show(rt, &drive, 8, (1 << 41) + 1, 4, &mut found)
 }
 
+// What a slot says of its record.
+fn head(number: u64, address: u32, index: u16, count: u16) -> Head {
+    Head {
+        number,
+        address,
+        index,
+        count,
+    }
+}
+
 // A write of three one of whose slots says another count, index, address or number.
 fn disagreeing(rt: &LibcRuntime) -> io::Result<()> {
     println!(rt, "disagreeing")?;
@@ -168,53 +158,18 @@ fn disagreeing(rt: &LibcRuntime) -> io::Result<()> {
         return println!(rt, "no drive");
     };
     let heads = [
-        Head {
-            number: 1,
-            address: 4,
-            index: 1,
-            count: 3,
-        },
-        Head {
-            number: 1,
-            address: 4,
-            index: 1,
-            count: 4,
-        },
-        Head {
-            number: 1,
-            address: 4,
-            index: 0,
-            count: 3,
-        },
-        Head {
-            number: 1,
-            address: 3,
-            index: 1,
-            count: 3,
-        },
-        Head {
-            number: 17,
-            address: 4,
-            index: 1,
-            count: 3,
-        },
+        head(1, 4, 1, 3),
+        head(1, 4, 1, 4),
+        head(1, 4, 0, 3),
+        head(1, 3, 1, 3),
+        head(17, 4, 1, 3),
     ];
     put(rt, &mut drive, 0, 3, 1536)?;
     for head in heads {
         poke(rt, &mut drive, 1, head)?;
         show(rt, &drive, 8, 0, 16, &mut found)?;
     }
-    poke(
-        rt,
-        &mut drive,
-        0,
-        Head {
-            number: 0,
-            address: 3,
-            index: 0,
-            count: 9,
-        },
-    )?;
+    poke(rt, &mut drive, 0, head(0, 3, 0, 9))?;
     show(rt, &drive, 64, 0, 16, &mut found)
 }
 

@@ -1,10 +1,12 @@
 // Builds, reads, breaks and applies objects of each kind, and shows what comes of it.
 use extents::Extent;
 use extents::Place;
+use extents::PlaceMap;
 use objects::Carrier;
 use objects::Closed;
 use objects::Entry;
 use objects::Numbers;
+use objects::apply;
 use objects::read;
 use std::io;
 use std::io::BufWriter;
@@ -161,6 +163,11 @@ fn tell_changes<W: Write>(out: &mut W, bytes: &mut [u8], changes: &[Change]) -> 
     Ok(())
 }
 
+// So many blocks from an address on.
+fn entry(address: u32, count: u32) -> Entry {
+    Entry { address, count }
+}
+
 // An extent of places.
 fn extent(first: u32, length: u32, object: u32, offset: u32) -> Extent<Place> {
     Extent {
@@ -202,15 +209,7 @@ fn carriers<W: Write>(out: &mut W, buf: &mut [u8], carrier: Carrier, few: u32) -
         blocks: 8,
         total: 1,
     };
-    let size = carry(
-        buf,
-        &mut numbers,
-        small,
-        &[Entry {
-            address: 2,
-            count: 1,
-        }],
-    );
+    let size = carry(buf, &mut numbers, small, &[entry(2, 1)]);
     vector(out, "smallest", buf, size, 2, 8)?;
     let middle = Plan {
         carrier,
@@ -218,16 +217,7 @@ fn carriers<W: Write>(out: &mut W, buf: &mut [u8], carrier: Carrier, few: u32) -
         blocks: 40,
         total: 11,
     };
-    let entries = [
-        Entry {
-            address: 0,
-            count: few,
-        },
-        Entry {
-            address: 37,
-            count: 3,
-        },
-    ];
+    let entries = [entry(0, few), entry(37, 3)];
     let size = carry(buf, &mut numbers, middle, &entries);
     vector(out, "in between", buf, size, 3, 40)?;
     let mut last = Numbers::after(4294967294);
@@ -237,10 +227,7 @@ fn carriers<W: Write>(out: &mut W, buf: &mut [u8], carrier: Carrier, few: u32) -
         blocks: 1024,
         total: 32,
     };
-    let entries = [Entry {
-        address: 1023,
-        count: 1,
-    }; 32];
+    let entries = [entry(1023, 1); 32];
     let size = carry(buf, &mut last, large, &entries);
     vector(out, "largest", buf, size, 4294967295, 1024)
 }
@@ -283,21 +270,7 @@ fn broken_data<W: Write>(out: &mut W, buf: &mut [u8]) -> io::Result<()> {
         blocks: 8,
         total: 5,
     };
-    let size = carry(
-        buf,
-        &mut numbers,
-        plan,
-        &[
-            Entry {
-                address: 0,
-                count: 2,
-            },
-            Entry {
-                address: 4,
-                count: 3,
-            },
-        ],
-    );
+    let size = carry(buf, &mut numbers, plan, &[entry(0, 2), entry(4, 3)]);
     if size < 40 || size >= buf.len() {
         return writeln!(out, "no such object");
     }
@@ -369,6 +342,60 @@ fn table_changes() -> [Change; 11] {
     ]
 }
 
+// What applying an object to a map makes of it, and of a count of 100 records.
+fn tell_applied<W: Write>(
+    out: &mut W,
+    map: &mut PlaceMap,
+    buf: &[u8],
+    size: usize,
+    name: u32,
+) -> io::Result<()> {
+    if size > buf.len() {
+        return writeln!(out, "no such object");
+    }
+    match apply(&buf[0..size], name, map, 100) {
+        Ok(count) => write!(out, "object {name}, {count} records:")?,
+        Err(_) => write!(out, "object {name}, not applied:")?,
+    }
+    for e in map.extents() {
+        let Extent {
+            first,
+            length,
+            target,
+        } = *e;
+        let Place { object, offset } = target;
+        write!(out, " ({first},{length},{object}@{offset})")?;
+    }
+    writeln!(out, "")
+}
+
+// A data object, a clean one over a part of it, a checkpoint, one for another disk, and a data object over the checkpoint's map.
+fn applying<W: Write>(out: &mut W, map: &mut PlaceMap, buf: &mut [u8]) -> io::Result<()> {
+    let mut numbers = Numbers::after(6);
+    let data = Plan {
+        carrier: Carrier::Data,
+        first: 100,
+        blocks: 8,
+        total: 5,
+    };
+    let size = carry(buf, &mut numbers, data, &[entry(0, 4), entry(2, 1)]);
+    tell_applied(out, map, buf, size, 7)?;
+    let clean = Plan {
+        carrier: Carrier::Clean,
+        first: 105,
+        blocks: 8,
+        total: 2,
+    };
+    let size = carry(buf, &mut numbers, clean, &[entry(1, 2)]);
+    tell_applied(out, map, buf, size, 8)?;
+    let size = check(buf, &mut numbers, 7, &[extent(0, 6, 1, 24)], 8);
+    tell_applied(out, map, buf, size, 9)?;
+    let size = check(buf, &mut numbers, 7, &[extent(0, 1, 1, 24)], 9);
+    tell_applied(out, map, buf, size, 10)?;
+    let size = carry(buf, &mut numbers, data, &[entry(6, 2), entry(0, 3)]);
+    tell_applied(out, map, buf, size, 11)
+}
+
 fn main(rt: LibcRuntime) -> io::Result<()> {
     let mut out = BufWriter::new(rt.stdout());
     let mut buf = [0u8; ROOM];
@@ -382,5 +409,10 @@ fn main(rt: LibcRuntime) -> io::Result<()> {
     broken_data(&mut out, &mut buf)?;
     writeln!(out, "a checkpoint, broken")?;
     broken_checkpoint(&mut out, &mut buf)?;
+    writeln!(out, "applied")?;
+    let Ok(mut map) = PlaceMap::with_room(rt.alloc(), 8) else {
+        return writeln!(out, "no memory");
+    };
+    applying(&mut out, &mut map, &mut buf)?;
     out.flush()
 }
