@@ -8,6 +8,8 @@ use std::alloc::AllocError;
 use std::alloc::Global;
 use std::fmt;
 
+pub mod text;
+
 // Numbers, each after one space.
 #[derive(Clone, Copy)]
 struct Numbers<'a> {
