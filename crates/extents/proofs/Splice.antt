@@ -15,6 +15,10 @@ module _ {X : Type 0} where
       let e : suc at ≡ at + 1 = omega arith in
       set-split d at y l ∙ ap (λ k. take at d ++ (y ∷ drop k d)) e ∙ sym (append-assoc (take at d) (y ∷ []) (drop (at + 1) d))
 
+  -- what is put where it stands changes nothing
+  pub pasted-same : (s : List X) (from k : ℕ) → from + k ≤ length s → s ≡ paste s from (drop from s) k
+  pasted-same s from k room = same-lists _ _ (search (needs, places)) (λ i d h. grind (arith, places))
+
   -- `new` in the place of the entries from `at` to before `upto`, and those after them moved
   pub spliced : (s new : List X) (at upto count n : ℕ) → n ≡ length new → upto ≤ count → count ≤ length s → at + n + (count - upto) ≤ length s → take (at + n + (count - upto)) (paste (paste s (at + n) (drop upto s) (count - upto)) at new n) ≡ take at s ++ (new ++ drop upto (take count s))
   spliced s new at upto count n size part within room = same-lists _ _ (search (needs, places)) (λ k d h. grind (arith, places))

@@ -183,6 +183,19 @@ fn write_held<X: Copy>(s: &mut [X], at: usize, x: Option<X>) -> usize
     }
 }
 
+// Moves the entries from `from` to before `upto` to `to`; where they stand there already, nothing moves.
+fn shift<X: Copy>(s: &mut [X], from: usize, upto: usize, to: usize)
+    requires forward { ⌜ from ≤ upto ⌝ }
+    requires within { ⌜ upto ≤ length (now s) ⌝ }
+    requires fits { ⌜ to + (upto - from) ≤ length (now s) ⌝ }
+    ensures len { λ _. ⌜ length (now (s .exit)) ≡ length (now (s .entry)) ⌝ }
+    ensures after { λ _. ⌜ now (s .exit) ≡ paste (now (s .entry)) to (drop from (now (s .entry))) (upto - from) ⌝ }
+{
+    if to != from {
+        s.copy_within(from..upto, to);
+    }
+}
+
 // Writes one to three entries in the place of those from `at` to before `upto`, and moves the rest.
 fn put<X: Copy>(
     s: &mut [X],
@@ -199,7 +212,7 @@ fn put<X: Copy>(
     ensures { λ r. ⌜ take r (now (s .exit)) ≡ take at (now (s .entry)) ++ (head ∷ (listed second ++ (listed third ++ drop upto (take count (now (s .entry)))))) ⌝ }
 {
     let len = 1 + held(second) + held(third);
-    s.copy_within(upto..count, at + len);
+    shift(s, upto, count, at + len);
     s[at] = head;
     let next = write_held(s, at + 1, second);
     let last = write_held(s, next, third);

@@ -18,8 +18,8 @@ returns g c =
     let ys = listed (c .args .second) in
     let zs = listed (c .args .third) in
     let k = 1 + length ys + length zs in
-    let all = moved-and-written s (c .copy-within .last .self) (c .write-held-next .last .s) (c .write-held-last .last .s) at upto count _ (c .write-held-next .result) h ys zs
-    (omega (arith, c .held .ensures, c .held-2 .ensures)) (omega (arith, c .copy-within .ensures .len)) (c .copy-within .ensures .after) (c .write-held-next .ensures .after) (c .write-held-next .ensures .next) (c .write-held-last .ensures .after) in
+    let all = moved-and-written s (c .shift .last .s) (c .write-held-next .last .s) (c .write-held-last .last .s) at upto count _ (c .write-held-next .result) h ys zs
+    (omega (arith, c .held .ensures, c .held-2 .ensures)) (omega (arith, c .shift .ensures .len)) (c .shift .ensures .after) (c .write-held-next .ensures .after) (c .write-held-next .ensures .next) (c .write-held-last .ensures .after) in
     let size : k ≡ length ((h ∷ ys) ++ zs) = omega (arith, length-append (h ∷ ys) zs) in
     let r : c .write-held-last .result + (count - upto) ≡ at + k + (count - upto) = omega (arith, c .write-held-next .ensures .next, c .write-held-last .ensures .next) in
     ap (λ n. take n (c .write-held-last .last .s)) r
