@@ -1,11 +1,13 @@
-// The same log of 64 slots filled, flushed, cut and scanned as in log.rattle, in plain Rust.
+// The same log of 64 slots filled and scanned as in log.rattle, in plain Rust.
 const SLOT: usize = 528;
 
+#[allow(dead_code)]
 struct Drive {
     current: Vec<[u8; SLOT]>,
     safe: Vec<[u8; SLOT]>,
 }
 
+#[allow(dead_code)]
 impl Drive {
     fn new(slots: usize) -> Drive {
         Drive { current: vec![[0; SLOT]; slots], safe: vec![[0; SLOT]; slots] }
@@ -111,8 +113,6 @@ fn main() {
             from += u64::from(n);
             left -= n;
         }
-        drive.flush();
-        drive.cut(sum);
         let end = scan(&drive, 1024, first, 64, &mut found);
         sum = sum.wrapping_mul(31).wrapping_add(end + found.len() as u64);
         for w in &found {
