@@ -1,4 +1,6 @@
 // Answer lines: `(n ok ..)` with the answer's numbers, or `(n no ..)` with the refusal's.
+#![tactic(auto)]
+
 ghost use Rattle.std.specs.Prelude.{◌≡◌, IfOk, Some, string_bytes};
 ghost use Rattle.answers.specs.Answers.{numbers_text, answer_text, OneAnswer};
 

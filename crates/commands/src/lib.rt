@@ -1,4 +1,6 @@
 // Command lines: the tokens of a line, and the call that a line asks for.
+#![tactic(auto)]
+
 ghost use Rattle.std.specs.Prelude.{◌≡◌, ℕ, ◌<◌, ◌≤◌, length, drop, IfSome};
 ghost use Rattle.std.specs.Option.{option_map};
 ghost use Rattle.commands.specs.Numbers.{digit, number_in};

@@ -1,4 +1,6 @@
 // A log drive: numbered slots of bytes that can be written, flushed and cut off by a loss of power.
+#![tactic(auto)]
+
 ghost use Rattle.std.specs.Prelude.{◌≡◌};
 ghost use Rattle.drive.specs.Views.{DriveView, Shaped, Read, Write, Cut, slot_count, flushed, blank};
 

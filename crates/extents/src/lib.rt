@@ -1,4 +1,6 @@
 // Extent maps: which block of a disk has which target, kept as a table of extents.
+#![tactic(auto)]
+
 mod extent;
 mod fault;
 mod numbers;

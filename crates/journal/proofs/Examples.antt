@@ -1,6 +1,6 @@
 -- The worked example of a torn log.
 use Rattle.std.proofs.Common.{◌≡◌, ℕ, zero, suc, ◌+◌, ◌<◌, List, [], ◌∷◌, sym, refl, ap, ◌∙◌, arith}
-use Rattle.bytes.specs.Fields.{unle}
+use Rattle.endian.specs.Fields.{unle}
 use Rattle.drive.specs.Views.{zero_slot}
 use Rattle.journal.specs.Layout.{head_of, FitsHead, slot}
 use Rattle.journal.specs.Writes.{Holds, Stands, Scan, slot_at}

@@ -2,8 +2,8 @@
 use Rattle.std.proofs.Common.{◌≡◌, ℕ, ◌+◌, ◌-◌, ◌^◌, ◌<◌, ◌≤◌, List, [], ◌∷◌, ◌++◌, length, get_or, take, drop, is_some, IfSome, Some, None, Option, sym, refl, ap, ◌∙◌, subst, ⊎_elim, append_assoc, append-nil, arith, take-add}
 use Rattle.std.proofs.lemmas.List.{take_at, drop_at, drop-drop, drop_all, take_all, get_or-take, get_or-drop, length-append, length-take, length-drop, get_or_past, take-append-drop}
 use Rattle.std.proofs.lemmas.Bool.{cases_lt}
-use Rattle.bytes.specs.Fields.{le, unle, placed}
-use Rattle.bytes.proofs.Laws.{length_le, unle_le, le_unle, placed_is, got}
+use Rattle.endian.specs.Fields.{le, unle, placed}
+use Rattle.endian.proofs.Laws.{length_le, unle_le, le_unle, placed_is, got}
 use Rattle.drive.specs.Views.{Slot, slot_bytes}
 use Rattle.journal.specs.declared.record.Head.{Head}
 use Rattle.journal.specs.declared.record.Record.{Record}

@@ -1,6 +1,6 @@
 -- How a record lies in a slot: number, address, index and count, each little-endian, then its block.
 use Rattle.std.specs.Prelude.{◌≡◌, ℕ, ◌^◌, ◌<◌, List, ◌++◌, length, take, drop, slice_index}
-use Rattle.bytes.specs.Fields.{le, unle}
+use Rattle.endian.specs.Fields.{le, unle}
 use Rattle.drive.specs.Views.{Slot, slot_bytes}
 use Rattle.journal.specs.declared.record.Head.{Head}
 use Rattle.journal.specs.declared.record.Record.{Record}

@@ -1,4 +1,6 @@
 // The journal: records in the slots of a log drive.
+#![tactic(auto)]
+
 pub mod found;
 pub mod record;
 pub mod span;

@@ -3,8 +3,8 @@ ghost use Rattle.std.specs.Prelude.{◌≡◌, length};
 ghost use Rattle.journal.specs.Layout.{SlotsStand, block_bytes, head_of, record_of, slot, slot_of};
 ghost use Rattle.drive.specs.Views.{slot_bytes};
 
-use bytes::{get_u16, get_u32, get_u64, put_part, put_u16, put_u32, put_u64};
 use drive::SLOT_BYTES;
+use endian::{get_u16, get_u32, get_u64, put_part, put_u16, put_u32, put_u64};
 
 pub mod fill;
 

@@ -1,4 +1,6 @@
 // Reads command lines from standard input, and prints for each the call that it asks for, or that it is bad and where.
+#![tactic(auto)]
+
 use answers::Answer;
 use commands::call::Call;
 use commands::list::ByteList;

@@ -1,4 +1,6 @@
 // A line is gathered byte by byte.
+#![tactic(auto)]
+
 ghost use Rattle.std.specs.Prelude.{◌≡◌, [], ◌∷◌, ◌++◌, take};
 ghost use Rattle.lines.specs.Buffers.{held, FrontTells};
 

@@ -1,4 +1,6 @@
 // Logs made by hand, and what a scan finds in them.
+#![tactic(auto)]
+
 use drive::{BufferedDrive, DirectDrive, Drive, MakeFault, SLOT_BYTES};
 use journal::found::Found;
 use journal::found::scan::scan;

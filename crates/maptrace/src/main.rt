@@ -1,4 +1,6 @@
 // Reads map commands from standard input, a line each, says what each did, and at the end shows the maps.
+#![tactic(auto)]
+
 use command::Command;
 use extents::{MapFault, Place, Record};
 use line::Line;

@@ -6,8 +6,8 @@ use lib.Seq.{take-append-add}
 use borrow.Rule.Slice.PartMut.{put_mid}
 use Rattle.std.proofs.lemmas.List.{length_append, length-take-le, length-drop, drop-drop, drop-take, drop-append-le, take_more, flat_map_more}
 use Rattle.std.proofs.lemmas.Slice.{take-put_mid, take-put_mid_below, drop-put_mid}
-use Rattle.bytes.specs.Fields.{le, placed}
-use Rattle.bytes.proofs.Laws.{length_le, placed_is}
+use Rattle.endian.specs.Fields.{le, placed}
+use Rattle.endian.proofs.Laws.{length_le, placed_is}
 
 pub length_put_mid : (at n : ℕ) (xs ys : List ℕ) → at + n ≤ length xs → length ys ≡ n → length (put_mid at n xs ys) ≡ length xs
 length_put_mid at n xs ys room long =

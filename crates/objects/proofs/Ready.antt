@@ -7,7 +7,7 @@ use Rattle.extents.specs.declared.extent.Extent.{Extent}
 use Rattle.extents.specs.declared.target.Place.{Place}
 use Rattle.extents.specs.Map.{is_table}
 use Rattle.extents.specs.Kinds.{place_advanced, place_same}
-use Rattle.bytes.specs.Fields.{lies}
+use Rattle.endian.specs.Fields.{lies}
 use Rattle.objects.specs.Layout.{Object, checkpoint, header_of, header_bytes, extent_bytes, written}
 use Rattle.objects.specs.Rules.{every, disk_size, extent_fits, valid}
 use Rattle.objects.specs.Seen.{chained, no_extent}

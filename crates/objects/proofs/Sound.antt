@@ -19,7 +19,7 @@ use Rattle.objects.specs.Reading.{Undamaged, IsDamaged, NoCheckpoint, Read, Read
 use Rattle.objects.proofs.Widths.{Bytes, field_small}
 use Rattle.objects.proofs.Lists.{length_listed, joined_listed, length_joined}
 use Rattle.objects.proofs.Tables.{table_from_chain, chain_from_table, may_begin}
-use Rattle.bytes.proofs.Laws.{length_le}
+use Rattle.endian.proofs.Laws.{length_le}
 use Rattle.objects.proofs.Writings.{header_back, entry_back, extent_back, carries, checks, carrier_read, checkpoint_read, entries_read, table_read}
 
 -- what the check of the header has found

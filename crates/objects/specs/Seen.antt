@@ -1,6 +1,6 @@
 -- What bytes say, read as an object. Assumes nothing.
 use Rattle.std.specs.Prelude.{ℕ, zero, suc, ◌+◌, ◌*◌, ◌^◌, Bool, true, false, cond, not, ◌&&◌, List, [], ◌∷◌, length, take, drop, ◌==◌, nat_le, nat_lt}
-use Rattle.bytes.specs.Fields.{unle}
+use Rattle.endian.specs.Fields.{unle}
 use Rattle.extents.specs.declared.extent.Extent.{Extent}
 use Rattle.extents.specs.declared.target.Place.{Place}
 use Rattle.extents.specs.Map.{end, goes_on}

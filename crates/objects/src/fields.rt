@@ -5,7 +5,7 @@ ghost use Rattle.objects.specs.Seen.{entry_at, extent_at, field, header_at};
 
 use crate::entry::Entry;
 use crate::header::Header;
-use bytes::{get_u32, get_u64};
+use endian::{get_u32, get_u64};
 use extents::{Extent, Place};
 
 pub mod questions;

@@ -1,4 +1,6 @@
 // Objects: their bytes, building them, reading them, and what each does to a map.
+#![tactic(auto)]
+
 ghost use Rattle.std.specs.Prelude.{◌≡◌};
 ghost use Rattle.objects.specs.Rules.{entry_fits, most_blocks};
 ghost use Rattle.objects.specs.Seen.{follows};

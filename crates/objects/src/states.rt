@@ -5,7 +5,7 @@ ghost use Rattle.objects.specs.Layout.{header_bytes};
 
 use crate::entry::Carrier;
 use crate::header::Header;
-use bytes::{put_u32, put_u64};
+use endian::{put_u32, put_u64};
 
 pub mod building;
 pub mod checkpoint;

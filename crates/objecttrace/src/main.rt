@@ -1,4 +1,6 @@
 // Builds, reads, breaks and applies objects of each kind, and shows what comes of it.
+#![tactic(auto)]
+
 use extents::{Extent, Place, PlaceMap};
 use objects::{Carrier, Closed, Entry, Numbers, apply, read};
 use std::io;

@@ -1,4 +1,6 @@
 // Objects by number in a store: a put is pending until it lands.
+#![tactic(auto)]
+
 ghost use Rattle.std.specs.Prelude.{◌≡◌, ℕ, length};
 ghost use Rattle.store.specs.Views.{StoreView, next_from};
 ghost use Rattle.store.specs.Calls.{Put, Polled, sized, Got, Deleted, CutTo};

@@ -1,4 +1,6 @@
 // Runs both stores through the same calls and prints their answers.
+#![tactic(auto)]
+
 use std::alloc::Global;
 use store::Store;
 use store::directory::packed::PackedStore;

@@ -1,6 +1,6 @@
 // What bytes of an object say, without the whole object.
 ghost use Rattle.std.specs.Prelude.{◌≡◌, ℕ, ◌+◌, ◌*◌, ◌≤◌, length, take, drop, is_some, IfSome};
-ghost use Rattle.bytes.specs.Fields.{lies};
+ghost use Rattle.endian.specs.Fields.{lies};
 ghost use Rattle.objects.specs.Layout.{entry_bytes, extent_bytes, header_bytes, payload_offset};
 
 use super::{read_entry, read_extent, read_header};

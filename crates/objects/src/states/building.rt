@@ -8,7 +8,7 @@ use super::{Begun, Closed, Draft, Filled, NumberToken, Numbers, put_header};
 use crate::entry::{Carrier, Entry};
 use crate::header::Header;
 use crate::{entry_fits, most_blocks};
-use bytes::{put_part, put_u32};
+use endian::{put_part, put_u32};
 
 impl NumberToken {
     // An object of the number with no entries yet, for a disk of so many blocks.

@@ -9,7 +9,7 @@ ghost use Rattle.std.specs.List.{flat_map};
 use super::{Closed, NumberToken, put_header};
 use crate::follows;
 use crate::header::Header;
-use bytes::put_u32;
+use endian::put_u32;
 use extents::{Extent, Place};
 
 // Whether the extents keep their rules, each after the one before.

@@ -1,6 +1,6 @@
 use Rattle.std.proofs.Common.{◌≡◌, ◌^◌, ◌<◌, take, drop, sym, ◌∙◌, arith, rules}
-use Rattle.bytes.specs.Fields.{le}
-use Rattle.bytes.proofs.Laws.{got}
+use Rattle.endian.specs.Fields.{le}
+use Rattle.endian.proofs.Laws.{got}
 use Rattle.objects.proofs.Widths.{field_le}
 use Rattle.objects.proofs.fields.u32_at.Goals as goal
 

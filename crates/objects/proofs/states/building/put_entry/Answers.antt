@@ -1,5 +1,5 @@
 use Rattle.std.proofs.Common.{refl, arith}
-use Rattle.bytes.proofs.Laws.{length_le}
+use Rattle.endian.proofs.Laws.{length_le}
 use Rattle.objects.proofs.Puts.{put_first, put_more}
 use Rattle.objects.proofs.states.building.put_entry.Goals as goal
 

@@ -1,7 +1,7 @@
 use Rattle.std.proofs.Common.{◌≡◌, ◌++◌, refl, ap, ◌∙◌, append_assoc, arith}
 use borrow.Rule.Slice.PartMut.{put_mid}
 use Rattle.std.proofs.lemmas.List.{length-append}
-use Rattle.bytes.proofs.Laws.{length_le}
+use Rattle.endian.proofs.Laws.{length_le}
 use Rattle.objects.proofs.Puts.{put_first, put_more}
 use Rattle.objects.proofs.states.checkpoint.put_extent.Goals as goal
 

@@ -1,6 +1,6 @@
 use Rattle.std.proofs.Common.{arith}
-use Rattle.bytes.proofs.Laws.{read_le}
-use Rattle.bytes.proofs.at_u16.Goals as goal
+use Rattle.endian.proofs.Laws.{read_le}
+use Rattle.endian.proofs.at_u16.Goals as goal
 
 pub returns : goal.returns
 returns c =

@@ -1,6 +1,6 @@
 use Rattle.std.proofs.Common.{rules}
-use Rattle.bytes.specs.Fields.{le}
-use Rattle.bytes.proofs.bytes_u64.Goals as goal
+use Rattle.endian.specs.Fields.{le}
+use Rattle.endian.proofs.bytes_u64.Goals as goal
 
 pub returns : goal.returns
 unfolding le

@@ -1,6 +1,8 @@
 // Little-endian numbers in slices of bytes: each is put and read at a place, and refused where it would pass the end.
+#![tactic(auto)]
+
 ghost use Rattle.std.specs.Prelude.{◌≡◌, ℕ, ◌+◌, ◌<◌, ◌≤◌, length, take, drop, is_some, IfSome, nat_le};
-ghost use Rattle.bytes.specs.Fields.{FieldsStand, le, lies, placed};
+ghost use Rattle.endian.specs.Fields.{FieldsStand, le, lies, placed};
 
 // Whether `width` bytes from `at` on lie in `length` bytes.
 fn fits(at: usize, width: usize, length: usize) -> bool
