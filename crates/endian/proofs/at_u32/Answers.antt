@@ -4,5 +4,5 @@ use Rattle.endian.proofs.at_u32.Goals as goal
 
 pub returns : goal.returns
 returns c =
-    read_le 4 _ _ _ _ c.requires (λ i. (c.type-inv.buf i).fits) c.copy-from-slice.ensures.after
-    (omega (arith, c.from-le-bytes.ensures))
+    read_le 4 _ _ _ _ c.requires (λ i. (c.type_inv.buf i).fits) c.copy_from_slice.ensures.after
+    (omega (arith, c.from_le_bytes.ensures))

@@ -5,7 +5,7 @@ use Rattle.answers.proofs.text.put_all.Goals as goal
 
 pub loop-b-preserved : goal.loop-b-preserved
 loop-b-preserved c =
-    let items = byte_more (vec_items c.args.out.now) (vec_items c.loop-b.out) (vec_items c.push-reserved.new.self) c.args.text.now c.loop-b.b-index c.loop-b-test.true c.push-reserved.ensures.items c.loop-b.invariant.0 in
+    let items = byte_more (vec_items c.args.out.now) (vec_items c.loop-b.out) (vec_items c.push_reserved.new.self) c.args.text.now c.loop-b.b-index c.loop-b-test.true c.push_reserved.ensures.items c.loop-b.invariant.0 in
     (items, omega arith, search rules)
 
 pub returns : goal.returns

@@ -5,7 +5,7 @@ use Rattle.answers.proofs.text.put_items.Goals as goal
 
 pub loop-n-preserved : goal.loop-n-preserved
 loop-n-preserved c =
-    let items = item_more (vec_items c.args.out.now) (vec_items c.loop-n.out) (vec_items c.push-reserved.new.self) (vec_items c.put-number.new.out) c.args.items.now c.loop-n.n-index c.loop-n-test.true c.loop-n.invariant.0 c.push-reserved.ensures.items c.put-number.ensures.items in
+    let items = item_more (vec_items c.args.out.now) (vec_items c.loop-n.out) (vec_items c.push_reserved.new.self) (vec_items c.put_number.new.out) c.args.items.now c.loop-n.n-index c.loop-n-test.true c.loop-n.invariant.0 c.push_reserved.ensures.items c.put_number.ensures.items in
     (items, omega arith, search rules)
 
 pub returns : goal.returns

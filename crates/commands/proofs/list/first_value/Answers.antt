@@ -24,7 +24,7 @@ loop-i-preserved c =
     let n = c.loop-i.n in
     let lt : i < length s = omega arith in
     let other : get_or s i 0 ≡ 32 → ⊥ = search rules in
-    let digit : c.saturating-sub.result ≡ get_or s i 0 - 48 = search rules in
+    let digit : c.saturating_sub.result ≡ get_or s i 0 - 48 = search rules in
     (omega arith, search rules, c.loop-i.invariant.2 ∙ value_more s i n lt other ∙ ap (λ k. values_on (Some (10 * n + k)) (drop (i + 1) s)) (sym digit))
 
 pub returns-then-i-text : goal.returns-then-i-text

@@ -6,4 +6,4 @@ use Rattle.drive.proofs.memory.zero_slots.Goals as goal
 pub loop-preserved : goal.loop-preserved
 unfolding zero_slot
 loop-preserved c =
-    (c.push-reserved.ensures.items ∙ ap (λ xs. xs ++ zero_slot ∷ []) c.loop.invariant.0 ∙ replicate_more c.loop.counter zero_slot, omega arith, omega (arith, c.push-reserved.ensures.capacity))
+    (c.push_reserved.ensures.items ∙ ap (λ xs. xs ++ zero_slot ∷ []) c.loop.invariant.0 ∙ replicate_more c.loop.counter zero_slot, omega arith, omega (arith, c.push_reserved.ensures.capacity))

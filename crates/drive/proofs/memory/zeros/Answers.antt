@@ -2,5 +2,5 @@ use Rattle.std.proofs.Common.{arith}
 use Rattle.drive.proofs.Areas.{kept_zeros}
 use Rattle.drive.proofs.memory.zeros.Goals as goal
 
-pub invariant-of-result : goal.invariant-of-result
-invariant-of-result c = kept_zeros _ _ c.in-Ok.ensures (omega arith) (omega arith)
+pub invariant_of-result : goal.invariant_of-result
+invariant_of-result c = kept_zeros _ _ c.in-Ok.ensures (omega arith) (omega arith)

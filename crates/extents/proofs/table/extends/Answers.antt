@@ -7,5 +7,5 @@ returns-then-n-eq0 g c = end_none g.T-as-Target.advanced g.T-as-Target.same c.ar
 
 pub returns : goal.returns
 returns g c =
-    c.may-follow.ensures
+    c.may_follow.ensures
     ∙ end_follows g.T-as-Target.advanced g.T-as-Target.same c.args.e c.requires.some c.args.s.now _ c.index-s-n.result (omega arith) c.index-s-n.is c.requires.table

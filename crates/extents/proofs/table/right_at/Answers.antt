@@ -6,8 +6,8 @@ use Rattle.extents.proofs.Reach.{entry_is}
 use Rattle.extents.proofs.Found.{found_end, found_fits}
 use Rattle.extents.proofs.table.right_at.Goals as goal
 
-pub cut-right-requires : goal.cut-right-requires
-cut-right-requires g c =
+pub cut_right-requires : goal.cut_right-requires
+cut_right-requires g c =
     let laws = g.T-as-Target.laws in
     let s = c.args.s.now in
     let e = c.index-s-j.result in
@@ -19,7 +19,7 @@ cut-right-requires g c =
 
 pub returns-then-j-s : goal.returns-then-j-s
 returns-then-j-s g c =
-    c.cut-right.ensures ∙ ap (at_head (right_of g.T-as-Target.advanced c.args.c)) (sym (entry_is c.args.s.now c.args.j c.index-s-j.result c.if-j-s.true c.index-s-j.is))
+    c.cut_right.ensures ∙ ap (at_head (right_of g.T-as-Target.advanced c.args.c)) (sym (entry_is c.args.s.now c.args.j c.index-s-j.result c.if-j-s.true c.index-s-j.is))
 
 pub returns-else-j-s : goal.returns-else-j-s
 returns-else-j-s g c = ap (at_head (right_of g.T-as-Target.advanced c.args.c)) (sym (drop_all c.args.j c.args.s.now c.if-j-s.false))

@@ -8,5 +8,5 @@ pub returns : goal.returns
 returns c =
     let bs = c.args.bytes.now in
     let small : c.unwrap.result < 256 ^ 4 = search rules in
-    let is = got (λ v. take 4 (drop c.args.at bs) ≡ le 4 v) _ _ c.unwrap.ensures c.get-u32.ensures.bytes in
+    let is = got (λ v. take 4 (drop c.args.at bs) ≡ le 4 v) _ _ c.unwrap.ensures c.get_u32.ensures.bytes in
     sym (field_le 4 c.args.at _ bs small is)

@@ -8,5 +8,5 @@ pub returns : goal.returns
 returns c =
     let bs = c.args.bytes.now in
     let small : c.unwrap.result < 256 ^ 8 = search rules in
-    let is = got (λ v. take 8 (drop c.args.at bs) ≡ le 8 v) _ _ c.unwrap.ensures c.get-u64.ensures.bytes in
+    let is = got (λ v. take 8 (drop c.args.at bs) ≡ le 8 v) _ _ c.unwrap.ensures c.get_u64.ensures.bytes in
     sym (field_le 8 c.args.at _ bs small is)

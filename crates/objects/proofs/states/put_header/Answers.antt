@@ -8,9 +8,9 @@ use Rattle.objects.proofs.states.put_header.Goals as goal
 pub returns : goal.returns
 returns c =
     let xs = c.args.buf.now in
-    let s0 = put_first 0 4 xs _ _ (omega (arith, c.requires)) c.put-u32.ensures.put in
-    let s1 = put_more 0 4 4 _ xs _ _ _ _ (omega (arith, c.requires)) (length_le 4 _) refl s0 c.put-u32-2.ensures.put in
-    let s2 = put_more 0 8 8 _ xs _ _ _ _ (omega (arith, c.requires)) (simp (length-append, length_le)) refl s1 c.put-u64.ensures.put in
-    let s3 = put_more 0 16 4 _ xs _ _ _ _ (omega (arith, c.requires)) (simp (length-append, length_le)) refl s2 c.put-u32-3.ensures.put in
-    let s4 = put_more 0 20 4 _ xs _ _ _ _ (omega (arith, c.requires)) (simp (length-append, length_le)) refl s3 c.put-u32-4.ensures.put in
+    let s0 = put_first 0 4 xs _ _ (omega (arith, c.requires)) c.put_u32.ensures.put in
+    let s1 = put_more 0 4 4 _ xs _ _ _ _ (omega (arith, c.requires)) (length_le 4 _) refl s0 c.put_u32-2.ensures.put in
+    let s2 = put_more 0 8 8 _ xs _ _ _ _ (omega (arith, c.requires)) (simp (length-append, length_le)) refl s1 c.put_u64.ensures.put in
+    let s3 = put_more 0 16 4 _ xs _ _ _ _ (omega (arith, c.requires)) (simp (length-append, length_le)) refl s2 c.put_u32-3.ensures.put in
+    let s4 = put_more 0 20 4 _ xs _ _ _ _ (omega (arith, c.requires)) (simp (length-append, length_le)) refl s3 c.put_u32-4.ensures.put in
     s4 ∙ ap (put_mid 0 24 xs) (simp append_assoc)

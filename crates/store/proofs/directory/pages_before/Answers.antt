@@ -7,11 +7,11 @@ pub overflow-add-sum : goal.overflow-add-sum
 overflow-add-sum c =
     let e = total_more pages c.args.entries.now c.loop-i.i c.loop-i.sum (omega arith) c.loop-i.invariant in
     let l = total_part pages c.args.entries.now (c.loop-i.i + 1) in
-    let p = c.page-count-sum.ensures in
+    let p = c.page_count-sum.ensures in
     omega arith
 
 pub loop-i-preserved : goal.loop-i-preserved
 loop-i-preserved c =
     let e = total_more pages c.args.entries.now c.loop-i.i c.loop-i.sum (omega arith) c.loop-i.invariant in
-    let p = c.page-count-sum.ensures in
+    let p = c.page_count-sum.ensures in
     omega arith

@@ -5,11 +5,11 @@ use Rattle.drive.proofs.memory.Area.copy.Goals as goal
 
 pub returns : goal.returns
 returns c =
-    with_items_is c.args.self.now.slots c.copy-from-slice.new.self (omega arith) ∙ c.copy-from-slice.ensures.after ∙ c.as-slice.ensures.value
+    with_items_is c.args.self.now.slots c.copy_from_slice.new.self (omega arith) ∙ c.copy_from_slice.ensures.after ∙ c.as_slice.ensures.value
 
-pub invariant-of-self : goal.invariant-of-self
-invariant-of-self c =
+pub invariant_of-self : goal.invariant_of-self
+invariant_of-self c =
     let from = c.args.from.now in
     kept_same _ (vec_items from.slots)
-    (with_items_is c.args.self.now.slots c.copy-from-slice.new.self (omega arith) ∙ c.copy-from-slice.ensures.after ∙ c.as-slice.ensures.value)
+    (with_items_is c.args.self.now.slots c.copy_from_slice.new.self (omega arith) ∙ c.copy_from_slice.ensures.after ∙ c.as_slice.ensures.value)
     (from.some, (from.few, (from.full, (from.bytes, tt))))

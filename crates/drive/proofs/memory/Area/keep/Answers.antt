@@ -8,16 +8,16 @@ pub returns : goal.returns
 returns c =
     let self = c.args.self.now.slots in
     let from = c.args.from.now.slots in
-    let e = simp (c.as-mut-slice.ensures.value, c.as-slice.ensures.value) at c.take-over.ensures in
-    let is = with_items_is self c.take-over.new.to (omega arith) ∙ e in
+    let e = simp (c.as_mut_slice.ensures.value, c.as_slice.ensures.value) at c.take_over.ensures in
+    let is = with_items_is self c.take_over.new.to (omega arith) ∙ e in
     record { even = ap length is ∙ length_mixed (bit c.args.kept) (vec_items from) (vec_items self) c.requires; mix = is }
 
-pub invariant-of-self : goal.invariant-of-self
-invariant-of-self c =
+pub invariant_of-self : goal.invariant_of-self
+invariant_of-self c =
     let self = c.args.self.now in
     let from = c.args.from.now in
     kept_mixed (bit c.args.kept) _ (vec_items from.slots) (vec_items self.slots)
-    (with_items_is self.slots c.take-over.new.to (omega arith) ∙ simp (c.take-over.ensures, c.as-mut-slice.ensures.value, c.as-slice.ensures.value))
+    (with_items_is self.slots c.take_over.new.to (omega arith) ∙ simp (c.take_over.ensures, c.as_mut_slice.ensures.value, c.as_slice.ensures.value))
     c.requires
     (from.some, (from.few, (from.full, (from.bytes, tt))))
     (self.some, (self.few, (self.full, (self.bytes, tt))))

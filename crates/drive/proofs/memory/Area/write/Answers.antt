@@ -6,7 +6,7 @@ pub returns : goal.returns
 returns c =
     let slots = c.args.self.now.slots in
     let within : c.args.slot < length (vec_items slots) = omega (arith, slots.ok.0) in
-    let copied = ap (set (vec_items slots) c.args.slot) c.copy-slot.ensures in
+    let copied = ap (set (vec_items slots) c.args.slot) c.copy_slot.ensures in
     record {
       beside = wrote_beside (vec_items slots) _ c.args.slot c.args.bytes.now (Ok tt) (within, copied);
       through = wrote_through_it (vec_items slots) _ c.args.slot c.args.bytes.now (Ok tt) (within, copied);

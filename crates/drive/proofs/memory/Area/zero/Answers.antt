@@ -5,9 +5,9 @@ use Rattle.drive.proofs.memory.Area.zero.Goals as goal
 
 pub returns : goal.returns
 returns c =
-    with_items_is c.args.self.now.slots c.clear.new.slots (omega arith) ∙ simp (c.clear.ensures, c.as-mut-slice.ensures.value)
+    with_items_is c.args.self.now.slots c.clear.new.slots (omega arith) ∙ simp (c.clear.ensures, c.as_mut_slice.ensures.value)
 
-pub invariant-of-self : goal.invariant-of-self
-invariant-of-self c =
+pub invariant_of-self : goal.invariant_of-self
+invariant_of-self c =
     let a = c.args.self.now in
-    kept_zeros _ _ (with_items_is a.slots c.clear.new.slots (omega arith) ∙ simp (c.clear.ensures, c.as-mut-slice.ensures.value)) a.some a.few
+    kept_zeros _ _ (with_items_is a.slots c.clear.new.slots (omega arith) ∙ simp (c.clear.ensures, c.as_mut_slice.ensures.value)) a.some a.few

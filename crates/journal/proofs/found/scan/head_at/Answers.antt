@@ -9,4 +9,4 @@ pub returns : goal.returns
 returns g c =
     let v = g.D.Drive.meaning c.args.drive.now in
     let some = (g.met.D.Drive.shaped c.args.drive.now).some in
-    c.read-from.ensures ∙ ap head_of (read_at v c.args.number c.from.result _ _ _ some (omega arith) c.read.ensures)
+    c.read_from.ensures ∙ ap head_of (read_at v c.args.number c.from.result _ _ _ some (omega arith) c.read.ensures)

@@ -13,7 +13,7 @@ loop-i-preserved g c =
     (g.D.Drive.meaning c.loop-i.drive) _ _ _ c.loop-i.invariant
     (λ x. record { number = c.args.from + number x; address = c.args.address + address x; index = c.loop-i.i; count = c.args.count })
     (part_block c.args.blocks.now c.loop-i.i c.from-at.result c.from-at.ensures)
-    c.put-record.ensures
+    c.put_record.ensures
 
 pub returns : goal.returns
 returns g c = upto_all _ _ _ _ _ c.loop-i.i _ (omega arith) c.loop-i.invariant

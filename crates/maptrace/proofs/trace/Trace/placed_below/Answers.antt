@@ -5,7 +5,7 @@ use Rattle.extents.specs.Rows.{table_of}
 use Rattle.maptrace.specs.Traces.{mapped_below}
 use Rattle.maptrace.proofs.Counting.{mapped_few, mapped_more, mapped_same}
 use Rattle.maptrace.proofs.trace.Trace.placed_below.Goals as goal
-use Rattle.maptrace.proofs.trace.Trace.placed_below.Goals.{then-is-some, else-is-some}
+use Rattle.maptrace.proofs.trace.Trace.placed_below.Goals.{then-is_some, else-is_some}
 
 pub overflow-add-n : goal.overflow-add-n
 overflow-add-n c = let l = mapped_few (target_at place_advanced (table_of c.args.self.now.places.rows)) c.loop-b.n c.loop-b.b c.loop-b.invariant in omega arith
@@ -13,10 +13,10 @@ overflow-add-n c = let l = mapped_few (target_at place_advanced (table_of c.args
 pub loop-b-preserved : goal.loop-b-preserved
 loop-b-preserved c =
     let f = target_at place_advanced (table_of c.args.self.now.places.rows) in
-    let q = c.is-some.ensures ∙ ap is_some c.lookup.ensures in
-    elim c.if-is-some.branch [
-      | then-is-some w ↦ w.n-is ∙ mapped_more f c.loop-b.n c.loop-b.b c.is-some.result q w.if-is-some.true c.loop-b.invariant
-      | else-is-some w ↦ w.n-is ∙ mapped_same f c.loop-b.n c.loop-b.b c.is-some.result q w.if-is-some.false c.loop-b.invariant
+    let q = c.is_some.ensures ∙ ap is_some c.lookup.ensures in
+    elim c.if-is_some.branch [
+      | then-is_some w ↦ w.n-is ∙ mapped_more f c.loop-b.n c.loop-b.b c.is_some.result q w.if-is_some.true c.loop-b.invariant
+      | else-is_some w ↦ w.n-is ∙ mapped_same f c.loop-b.n c.loop-b.b c.is_some.result q w.if-is_some.false c.loop-b.invariant
     ]
 
 pub returns : goal.returns

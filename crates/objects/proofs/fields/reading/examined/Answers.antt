@@ -6,9 +6,9 @@ pub returns-then-not-framed : goal.returns-then-not-framed
 returns-then-not-framed c = unframed c.args.blocks c.args.name c.args.bytes.now (sym c.framed.ensures ∙ c.if-not-framed.true)
 
 pub returns-then-not-belongs : goal.returns-then-not-belongs
-returns-then-not-belongs c = foreign c.args.blocks c.args.name c.args.bytes.now _ c.read-header-header.ensures.says (sym c.belongs.ensures ∙ c.if-not-belongs.true)
+returns-then-not-belongs c = foreign c.args.blocks c.args.name c.args.bytes.now _ c.read_header-header.ensures.says (sym c.belongs.ensures ∙ c.if-not-belongs.true)
 
 pub returns : goal.returns
 returns c =
-    found_undamaged c.args.blocks c.args.name c.args.bytes.now _ (λ i. (c.type-inv.bytes i).fits) c.ranges.name.fits (sym c.framed.ensures ∙ c.if-not-framed.false)
-    c.read-header-header.ensures.says (sym c.belongs.ensures ∙ c.if-not-belongs.false)
+    found_undamaged c.args.blocks c.args.name c.args.bytes.now _ (λ i. (c.type_inv.bytes i).fits) c.ranges.name.fits (sym c.framed.ensures ∙ c.if-not-framed.false)
+    c.read_header-header.ensures.says (sym c.belongs.ensures ∙ c.if-not-belongs.false)

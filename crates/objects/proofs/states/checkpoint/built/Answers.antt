@@ -16,5 +16,5 @@ returns c =
     let room = ready_room c.args.token.number c.args.first c.args.blocks c.args.table.now c.args.buf.now good in (
       sym is ∙ good,
       refl,
-      checkpoint_built c.args.token.number c.args.first c.args.blocks c.args.table.now c.args.buf.now _ _ room c.put-header.ensures c.put-table.ensures,
+      checkpoint_built c.args.token.number c.args.first c.args.blocks c.args.table.now c.args.buf.now _ _ room c.put_header.ensures c.put_table.ensures,
     )

@@ -13,7 +13,7 @@ loop-i-preserved c =
     let xs = c.args.table.now in
     let i = c.loop-i.i in
     let x = get_or xs i no_extent in
-    put_thing extent_bytes 16 24 length_extent xs i _ x c.args.buf.now _ _ c.loop-i-test.true (get_or_default xs i x no_extent c.loop-i-test.true) c.requires refl c.loop-i.invariant c.put-extent.ensures
+    put_thing extent_bytes 16 24 length_extent xs i _ x c.args.buf.now _ _ c.loop-i-test.true (get_or_default xs i x no_extent c.loop-i-test.true) c.requires refl c.loop-i.invariant c.put_extent.ensures
 
 pub returns : goal.returns
 returns c =

@@ -8,10 +8,10 @@ use Rattle.extents.proofs.Rooms.{sound_table, sound_range, sound_width, sound_ro
 use Rattle.extents.proofs.Sieving.{dropped_table, dropped_range, dropped_target}
 use Rattle.extents.proofs.table.rows.Rows.drop_below.Goals as goal
 
-pub drop-below-new-count-requires : goal.drop-below-new-count-requires
-drop-below-new-count-requires g c =
+pub drop_below-new_count-requires : goal.drop_below-new_count-requires
+drop_below-new_count-requires g c =
     let m = g.T-as-Target in
-    ap (all_in_range m.advanced m.fits (2 ^ 32 - 1)) c.as-mut-slice.ensures.value ∙ sound_widest m.advanced m.same m.fits c.args.self.now c.requires
+    ap (all_in_range m.advanced m.fits (2 ^ 32 - 1)) c.as_mut_slice.ensures.value ∙ sound_widest m.advanced m.same m.fits c.args.self.now c.requires
 
 pub returns : goal.returns
 returns g c =
@@ -22,10 +22,10 @@ returns g c =
     let below = g.T.Ordered.below in
     let short : g.row.T.Denot → ℕ = λ t. g.T.Ordered.short t u in
     let climbs = λ (t : g.row.T.Denot) (i : ℕ). g.met.T.Ordered.climbs t u i in
-    let ws = c.drop-below-new-count.new.s in
-    let k = c.drop-below-new-count.result in
-    let len : length ws ≡ vec_len v.entries = c.drop-below-new-count.auto.s ∙ c.as-mut-slice.ensures.len in
-    let new : vec_items c.truncate.new.self ≡ sieved m.advanced short xs = c.truncate.ensures.items ∙ ap (take k) (with_items_is v.entries ws len) ∙ c.drop-below-new-count.ensures ∙ ap (sieved m.advanced short) c.as-mut-slice.ensures.value in
+    let ws = c.drop_below-new_count.new.s in
+    let k = c.drop_below-new_count.result in
+    let len : length ws ≡ vec_len v.entries = c.drop_below-new_count.auto.s ∙ c.as_mut_slice.ensures.len in
+    let new : vec_items c.truncate.new.self ≡ sieved m.advanced short xs = c.truncate.ensures.items ∙ ap (take k) (with_items_is v.entries ws len) ∙ c.drop_below-new_count.ensures ∙ ap (sieved m.advanced short) c.as_mut_slice.ensures.value in
     let t = sound_table m.advanced m.same m.fits v c.requires in
     let tab = dropped_table m.laws short below u climbs xs (vec_items c.truncate.new.self) new t in
     let w : Rows g.row.T.Denot = record { entries = c.truncate.new.self; blocks = v.blocks } in

@@ -8,6 +8,6 @@ lookup-requires g c =
     let m = g.T-as-Target in
     let v = c.args.self.now in
     record {
-      table = ap (is_table m.advanced m.same) c.as-slice.ensures.value ∙ sound_table m.advanced m.same m.fits v c.requires;
-      range = ap (all_in_range m.advanced m.fits (2 ^ 32 - 1)) c.as-slice.ensures.value ∙ sound_widest m.advanced m.same m.fits v c.requires;
+      table = ap (is_table m.advanced m.same) c.as_slice.ensures.value ∙ sound_table m.advanced m.same m.fits v c.requires;
+      range = ap (all_in_range m.advanced m.fits (2 ^ 32 - 1)) c.as_slice.ensures.value ∙ sound_widest m.advanced m.same m.fits v c.requires;
     }

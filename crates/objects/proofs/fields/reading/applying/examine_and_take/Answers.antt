@@ -13,22 +13,22 @@ returns-then-not-framed c =
 pub returns-then-not-belongs : goal.returns-then-not-belongs
 returns-then-not-belongs c =
     let same = c.blocks-blocks.ensures in (
-      foreign c.args.map.now.rows.blocks c.args.name c.args.bytes.now c.read-header-header.result c.read-header-header.ensures.says
-          (ap (λ n. belongs c.read-header-header.result c.args.name n c.args.bytes.now) (sym same) ∙ sym c.belongs.ensures ∙ c.if-not-belongs.true),
+      foreign c.args.map.now.rows.blocks c.args.name c.args.bytes.now c.read_header-header.result c.read_header-header.ensures.says
+          (ap (λ n. belongs c.read_header-header.result c.args.name n c.args.bytes.now) (sym same) ∙ sym c.belongs.ensures ∙ c.if-not-belongs.true),
       refl,
     )
 
-pub take-in-requires : goal.take-in-requires
-take-in-requires c =
+pub take_in-requires : goal.take_in-requires
+take_in-requires c =
     let same = c.blocks-blocks.ensures in
     let f = ap (λ n. framed n c.args.bytes.now) (sym same) ∙ sym c.framed.ensures ∙ c.if-not-framed.false in
-    let b = ap (λ n. belongs c.read-header-header.result c.args.name n c.args.bytes.now) (sym same) ∙ sym c.belongs.ensures ∙ c.if-not-belongs.false in
-    record { read = c.read-header-header.ensures.says; good = (sound_by c.args.map.now.rows.blocks c.args.name c.args.bytes.now c.read-header-header.result c.read-header-header.ensures.says f b).1 }
+    let b = ap (λ n. belongs c.read_header-header.result c.args.name n c.args.bytes.now) (sym same) ∙ sym c.belongs.ensures ∙ c.if-not-belongs.false in
+    record { read = c.read_header-header.ensures.says; good = (sound_by c.args.map.now.rows.blocks c.args.name c.args.bytes.now c.read_header-header.result c.read_header-header.ensures.says f b).1 }
 
 pub returns : goal.returns
 returns c =
     let same = c.blocks-blocks.ensures in
     let f = ap (λ n. framed n c.args.bytes.now) (sym same) ∙ sym c.framed.ensures ∙ c.if-not-framed.false in
-    let b = ap (λ n. belongs c.read-header-header.result c.args.name n c.args.bytes.now) (sym same) ∙ sym c.belongs.ensures ∙ c.if-not-belongs.false in
-    let n = (sound_by c.args.map.now.rows.blocks c.args.name c.args.bytes.now c.read-header-header.result c.read-header-header.ensures.says f b).0 in
-    subst (λ (k : ℕ). Applies k c.args.bytes.now c.args.records c.args.map.now.rows c.take-in.result c.take-in.new.map.rows) n c.take-in.ensures
+    let b = ap (λ n. belongs c.read_header-header.result c.args.name n c.args.bytes.now) (sym same) ∙ sym c.belongs.ensures ∙ c.if-not-belongs.false in
+    let n = (sound_by c.args.map.now.rows.blocks c.args.name c.args.bytes.now c.read_header-header.result c.read_header-header.ensures.says f b).0 in
+    subst (λ (k : ℕ). Applies k c.args.bytes.now c.args.records c.args.map.now.rows c.take_in.result c.take_in.new.map.rows) n c.take_in.ensures

@@ -12,11 +12,11 @@ pub overflow-add-before : goal.overflow-add-before
 overflow-add-before c =
     let bs = c.args.bytes.now in
     let i = c.loop-i.i in
-    let e = c.read-entry-entry.result in
+    let e = c.read_entry-entry.result in
     let es = listed (entry_at bs) 8 c.args.entries 24 in
     let long : length es ≡ c.args.entries = length_listed (entry_at bs) 8 c.args.entries 24 in
     let h : i < length es = omega (arith, long, c.loop-i-test.true) in
-    let is : get_or es i e ≡ e = get_or_listed (entry_at bs) 8 c.args.entries 24 i e c.loop-i-test.true ∙ sym c.read-entry-entry.ensures.says in
+    let is : get_or es i e ≡ e = get_or_listed (entry_at bs) 8 c.args.entries 24 i e c.loop-i-test.true ∙ sym c.read_entry-entry.ensures.says in
     let small : c.loop-i.before + e.count ≤ 32 = lay_small c.loop-i.before es i e h is c.loop-i.invariant.sum c.requires.sum in
     omega arith
 
@@ -24,11 +24,11 @@ pub loop-i-preserved : goal.loop-i-preserved
 loop-i-preserved c =
     let bs = c.args.bytes.now in
     let i = c.loop-i.i in
-    let e = c.read-entry-entry.result in
+    let e = c.read_entry-entry.result in
     let es = listed (entry_at bs) 8 c.args.entries 24 in
     let long : length es ≡ c.args.entries = length_listed (entry_at bs) 8 c.args.entries 24 in
     let h : i < length es = omega (arith, long, c.loop-i-test.true) in
-    let is : get_or es i e ≡ e = get_or_listed (entry_at bs) 8 c.args.entries 24 i e c.loop-i-test.true ∙ sym c.read-entry-entry.ensures.says in
+    let is : get_or es i e ≡ e = get_or_listed (entry_at bs) 8 c.args.entries 24 i e c.loop-i-test.true ∙ sym c.read_entry-entry.ensures.says in
     lay_more c.args.number c.args.entries c.loop-i.before es i e c.args.map.now.rows c.loop-i.map.rows c.insert.new.self.rows c.insert.result h is c.requires.few c.requires.sum c.loop-i.invariant c.insert.ensures
 
 pub returns : goal.returns

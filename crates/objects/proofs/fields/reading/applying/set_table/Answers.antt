@@ -18,11 +18,11 @@ pub loop-i-preserved : goal.loop-i-preserved
 loop-i-preserved c =
     let bs = c.args.bytes.now in
     let i = c.loop-i.i in
-    let x = c.read-extent-extent.result in
+    let x = c.read_extent-extent.result in
     let xs = listed (extent_at bs) 16 c.args.entries 24 in
     let long : length xs ≡ c.args.entries = length_listed (extent_at bs) 16 c.args.entries 24 in
     let h : i < length xs = omega (arith, long, c.loop-i-test.true) in
-    let is : get_or xs i x ≡ x = get_or_listed (extent_at bs) 16 c.args.entries 24 i x c.loop-i-test.true ∙ sym c.read-extent-extent.ensures.says in
+    let is : get_or xs i x ≡ x = get_or_listed (extent_at bs) 16 c.args.entries 24 i x c.loop-i-test.true ∙ sym c.read_extent-extent.ensures.says in
     set_more xs i x _ c.loop-i.map.rows c.append.new.self.rows c.append.result h is c.requires.tabled c.loop-i.invariant c.append.ensures
 
 pub returns : goal.returns

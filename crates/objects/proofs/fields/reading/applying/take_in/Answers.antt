@@ -12,31 +12,31 @@ lay-requires-in-2 c =
     let f = clean_facts c.args.header c.args.map.now.rows.blocks c.args.bytes.now c.requires.read c.in-2.is c.requires.good in
     record { few = f.few; room = f.room; fit = f.fit; sum = f.sum }
 
-pub set-table-requires : goal.set-table-requires
-set-table-requires c =
+pub set_table-requires : goal.set_table-requires
+set_table-requires c =
     let one : (c.args.header.kind ≡ 1 → ⊥) = search rules in
     let two : (c.args.header.kind ≡ 2 → ⊥) = search rules in
     let f = set_facts c.args.header c.args.map.now.rows.blocks c.args.bytes.now c.requires.read one two c.requires.good in
     record { few = f.few; room = f.room; tabled = f.tabled; ranged = f.ranged }
 
-pub returns-in-default-checked-add : goal.returns-in-default-checked-add
-returns-in-default-checked-add c =
+pub returns-in-default-checked_add : goal.returns-in-default-checked_add
+returns-in-default-checked_add c =
     let high : c.args.header.number < 2 ^ 32 = search rules in
-    (data_past c.args.header c.args.records c.args.bytes.now c.args.map.now.rows (λ i. (c.type-inv.bytes i).fits) high c.requires.read c.in-1.is c.requires.good c.in-default-checked-add.ensures, refl)
+    (data_past c.args.header c.args.records c.args.bytes.now c.args.map.now.rows (λ i. (c.type_inv.bytes i).fits) high c.requires.read c.in-1.is c.requires.good c.in-default-checked_add.ensures, refl)
 
 pub returns-in-Some : goal.returns-in-Some
 returns-in-Some c =
     let high : c.args.header.number < 2 ^ 32 = search rules in
-    data_taken c.args.header c.args.records c.in-Some.count c.args.bytes.now c.args.map.now.rows c.lay.new.map.rows (λ i. (c.type-inv.bytes i).fits) high c.requires.read c.in-1.is c.requires.good c.in-Some.ensures.1 c.lay.ensures.blocks c.lay.ensures.places
+    data_taken c.args.header c.args.records c.in-Some.count c.args.bytes.now c.args.map.now.rows c.lay.new.map.rows (λ i. (c.type_inv.bytes i).fits) high c.requires.read c.in-1.is c.requires.good c.in-Some.ensures.1 c.lay.ensures.blocks c.lay.ensures.places
 
 pub returns-in-2 : goal.returns-in-2
 returns-in-2 c =
     let high : c.args.header.number < 2 ^ 32 = search rules in
-    clean_taken c.args.header c.args.records c.args.bytes.now c.args.map.now.rows c.lay-in-2.new.map.rows (λ i. (c.type-inv.bytes i).fits) high c.requires.read c.in-2.is c.requires.good c.lay-in-2.ensures.blocks c.lay-in-2.ensures.places
+    clean_taken c.args.header c.args.records c.args.bytes.now c.args.map.now.rows c.lay-in-2.new.map.rows (λ i. (c.type_inv.bytes i).fits) high c.requires.read c.in-2.is c.requires.good c.lay-in-2.ensures.blocks c.lay-in-2.ensures.places
 
 pub returns-in-default : goal.returns-in-default
 returns-in-default c =
     let high : c.args.header.number < 2 ^ 32 = search rules in
     let one : (c.args.header.kind ≡ 1 → ⊥) = search rules in
     let two : (c.args.header.kind ≡ 2 → ⊥) = search rules in
-    table_taken c.args.header c.args.records c.args.bytes.now c.args.map.now.rows c.set-table.new.map.rows (λ i. (c.type-inv.bytes i).fits) high c.requires.read one two c.requires.good c.set-table.ensures.blocks c.set-table.ensures.table
+    table_taken c.args.header c.args.records c.args.bytes.now c.args.map.now.rows c.set_table.new.map.rows (λ i. (c.type_inv.bytes i).fits) high c.requires.read one two c.requires.good c.set_table.ensures.blocks c.set_table.ensures.table

@@ -14,4 +14,4 @@ pub returns-in-Some : goal.returns-in-Some
 returns-in-Some c =
     let s = c.args.self.now in
     let f = subst (λ z. Found z c.args.number (Some c.in-Some.i)) c.deref.ensures.value c.in-Some.ensures in
-    sized_found packed_room packed_roomy packed_weight (vec_len s.area) (vec_items s.entries) (vec_items s.area) c.args.number c.in-Some.i _ f s.listed.0 (omega (arith, s.sums.0, s.sums.1, s.area.ok.0)) (c.length-at.ensures ∙ ap (λ z. (here z c.in-Some.i).length) c.deref-in-Some.ensures.value)
+    sized_found packed_room packed_roomy packed_weight (vec_len s.area) (vec_items s.entries) (vec_items s.area) c.args.number c.in-Some.i _ f s.listed.0 (omega (arith, s.sums.0, s.sums.1, s.area.ok.0)) (c.length_at.ensures ∙ ap (λ z. (here z c.in-Some.i).length) c.deref-in-Some.ensures.value)

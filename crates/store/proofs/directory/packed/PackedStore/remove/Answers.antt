@@ -9,48 +9,48 @@ use Rattle.store.proofs.directory.packed.PackedStore.remove.Goals as goal
 pub overflow-add-end : goal.overflow-add-end
 overflow-add-end c =
     let s = c.args.self.now in
-    let l = packed_lies (vec_items s.entries) c.args.i s.used c.bytes-before-start.result (vec_len s.area) (omega (arith, s.entries.ok.0)) s.sums (c.bytes-before-start.ensures ∙ ap (λ z. total packed_room (take c.args.i z)) c.deref.ensures.value) in
-    let e = ap (λ z. z.length) c.take-out-e.ensures.gone in
+    let l = packed_lies (vec_items s.entries) c.args.i s.used c.bytes_before-start.result (vec_len s.area) (omega (arith, s.entries.ok.0)) s.sums (c.bytes_before-start.ensures ∙ ap (λ z. total packed_room (take c.args.i z)) c.deref.ensures.value) in
+    let e = ap (λ z. z.length) c.take_out-e.ensures.gone in
     let b = s.bounds.1 in
     omega (arith, l.back, l.within)
 
-pub copy-within-requires : goal.copy-within-requires
-copy-within-requires c =
+pub copy_within-requires : goal.copy_within-requires
+copy_within-requires c =
     let s = c.args.self.now in
-    let l = packed_lies (vec_items s.entries) c.args.i s.used c.bytes-before-start.result (vec_len s.area) (omega (arith, s.entries.ok.0)) s.sums (c.bytes-before-start.ensures ∙ ap (λ z. total packed_room (take c.args.i z)) c.deref.ensures.value) in
-    let e = ap (λ z. z.length) c.take-out-e.ensures.gone in
+    let l = packed_lies (vec_items s.entries) c.args.i s.used c.bytes_before-start.result (vec_len s.area) (omega (arith, s.entries.ok.0)) s.sums (c.bytes_before-start.ensures ∙ ap (λ z. total packed_room (take c.args.i z)) c.deref.ensures.value) in
+    let e = ap (λ z. z.length) c.take_out-e.ensures.gone in
     record { start-le-end = omega (arith, l.back, l.within); in_bounds = l.within; dest-in-bounds = omega (arith, l.back, l.within); not-exhausted = tt }
 
 pub overflow-sub-self : goal.overflow-sub-self
 overflow-sub-self c =
     let s = c.args.self.now in
-    let l = packed_lies (vec_items s.entries) c.args.i s.used c.bytes-before-start.result (vec_len s.area) (omega (arith, s.entries.ok.0)) s.sums (c.bytes-before-start.ensures ∙ ap (λ z. total packed_room (take c.args.i z)) c.deref.ensures.value) in
-    let e = ap (λ z. z.length) c.take-out-e.ensures.gone in
+    let l = packed_lies (vec_items s.entries) c.args.i s.used c.bytes_before-start.result (vec_len s.area) (omega (arith, s.entries.ok.0)) s.sums (c.bytes_before-start.ensures ∙ ap (λ z. total packed_room (take c.args.i z)) c.deref.ensures.value) in
+    let e = ap (λ z. z.length) c.take_out-e.ensures.gone in
     omega (arith, l.back, l.within)
 
 pub overflow-sub-self-2 : goal.overflow-sub-self-2
-overflow-sub-self-2 c = let s = c.args.self.now in waits_here (vec_items s.entries) c.args.i s.waiting _ _ (omega (arith, s.entries.ok.0)) c.take-out-e.ensures.gone s.listed c.pending-count.ensures
+overflow-sub-self-2 c = let s = c.args.self.now in waits_here (vec_items s.entries) c.args.i s.waiting _ _ (omega (arith, s.entries.ok.0)) c.take_out-e.ensures.gone s.listed c.pending_count.ensures
 
-pub invariant-of-self : goal.invariant-of-self
-invariant-of-self c =
+pub invariant_of-self : goal.invariant_of-self
+invariant_of-self c =
     let s = c.args.self.now in
     let h : c.args.i < length (vec_items s.entries) = omega (arith, s.entries.ok.0) in
-    let w = waits_here (vec_items s.entries) c.args.i s.waiting _ _ h c.take-out-e.ensures.gone s.listed c.pending-count.ensures in
-    let z = ap (λ y. waits (y ∷ [])) c.take-out-e.ensures.gone in
-    let q = c.pending-count.ensures in (
-      listed_removed (vec_items s.entries) _ c.args.i s.waiting _ h c.take-out-e.ensures.items (omega (arith, w, z, q)) s.listed,
+    let w = waits_here (vec_items s.entries) c.args.i s.waiting _ _ h c.take_out-e.ensures.gone s.listed c.pending_count.ensures in
+    let z = ap (λ y. waits (y ∷ [])) c.take_out-e.ensures.gone in
+    let q = c.pending_count.ensures in (
+      listed_removed (vec_items s.entries) _ c.args.i s.waiting _ h c.take_out-e.ensures.items (omega (arith, w, z, q)) s.listed,
       (
-        packed_sums_same _ _ _ _ c.copy-within.ensures.len (packed_sums_removed (vec_items s.entries) _ c.args.i s.used (vec_len s.area) _ h c.take-out-e.ensures.items c.take-out-e.ensures.gone s.sums),
-        (packed_area_same _ _ _ _ c.take-out-e.ensures.capacity c.copy-within.ensures.len s.bounds, tt),
+        packed_sums_same _ _ _ _ c.copy_within.ensures.len (packed_sums_removed (vec_items s.entries) _ c.args.i s.used (vec_len s.area) _ h c.take_out-e.ensures.items c.take_out-e.ensures.gone s.sums),
+        (packed_area_same _ _ _ _ c.take_out-e.ensures.capacity c.copy_within.ensures.len s.bounds, tt),
       ),
     )
 
 pub returns : goal.returns
 returns c =
     let s = c.args.self.now in
-    let t = packed_taken_out s c.args.i c.bytes-before-start.result (vec_len c.copy-within.new.self) c.take-out-e.result (vec_items c.take-out-e.new.entries) (vec_items c.copy-within.new.self) c.requires (c.bytes-before-start.ensures ∙ ap (λ z. total packed_room (take c.args.i z)) c.deref.ensures.value) c.take-out-e.ensures.gone c.take-out-e.ensures.items c.copy-within.ensures.len c.copy-within.ensures.items in
+    let t = packed_taken_out s c.args.i c.bytes_before-start.result (vec_len c.copy_within.new.self) c.take_out-e.result (vec_items c.take_out-e.new.entries) (vec_items c.copy_within.new.self) c.requires (c.bytes_before-start.ensures ∙ ap (λ z. total packed_room (take c.args.i z)) c.deref.ensures.value) c.take_out-e.ensures.gone c.take_out-e.ensures.items c.copy_within.ensures.len c.copy_within.ensures.items in
     let h : c.args.i < length (vec_items s.entries) = omega (arith, s.entries.ok.0) in
-    let w = waits_here (vec_items s.entries) c.args.i s.waiting _ _ h c.take-out-e.ensures.gone s.listed c.pending-count.ensures in
-    let z = ap (λ y. waits (y ∷ [])) c.take-out-e.ensures.gone in
-    let q = c.pending-count.ensures in
+    let w = waits_here (vec_items s.entries) c.args.i s.waiting _ _ h c.take_out-e.ensures.gone s.listed c.pending_count.ensures in
+    let z = ap (λ y. waits (y ∷ [])) c.take_out-e.ensures.gone in
+    let q = c.pending_count.ensures in
     record { landed = t.landed; pending = t.pending; fewer = omega (arith, w, z, q) }

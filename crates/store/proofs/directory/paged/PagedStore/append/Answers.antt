@@ -10,8 +10,8 @@ use Rattle.store.proofs.PageSteps.{moved_once}
 use Rattle.store.proofs.PagedMoves.{paged_roomy, bytes, sizes, paged_refusal, paged_puttable, paged_sums_push, paged_area_same, paged_put, paged_sums_risen, paged_stands, paged_sums_removed, paged_area_moved, paged_taken_out, newest_last}
 use Rattle.store.proofs.directory.paged.PagedStore.append.Goals as goal
 
-pub write-pages-requires : goal.write-pages-requires
-write-pages-requires c =
+pub write_pages-requires : goal.write_pages-requires
+write_pages-requires c =
     let s = c.args.self.now in
     let p = paged_puttable s c.args.number c.args.bytes.now c.requires in
     let v = c.deref.ensures.value in
@@ -25,19 +25,19 @@ write-pages-requires c =
       few = omega (arith, l, g.order, s.bounds.2);
     }
 
-pub push-reserved-requires : goal.push-reserved-requires
-push-reserved-requires c = (paged_puttable c.args.self.now c.args.number c.args.bytes.now c.requires).free
+pub push_reserved-requires : goal.push_reserved-requires
+push_reserved-requires c = (paged_puttable c.args.self.now c.args.number c.args.bytes.now c.requires).free
 
-pub invariant-of-self : goal.invariant-of-self
-invariant-of-self c =
+pub invariant_of-self : goal.invariant_of-self
+invariant_of-self c =
     let s = c.args.self.now in
     let p = paged_puttable s c.args.number c.args.bytes.now c.requires in (
-      listed_push _ _ _ _ _ c.push-reserved.ensures.items refl s.listed p.admits,
+      listed_push _ _ _ _ _ c.push_reserved.ensures.items refl s.listed p.admits,
       (
-        paged_sums_push _ _ _ _ _ _ _ c.push-reserved.ensures.items c.page-count.ensures refl s.sums p.within,
+        paged_sums_push _ _ _ _ _ _ _ c.push_reserved.ensures.items c.page_count.ensures refl s.sums p.within,
         (
           s.once,
-          (paged_area_same _ _ _ _ _ _ c.push-reserved.ensures.capacity c.write-pages.ensures.len s.bounds, tt),
+          (paged_area_same _ _ _ _ _ _ c.push_reserved.ensures.capacity c.write_pages.ensures.len s.bounds, tt),
         ),
       ),
     )
@@ -46,5 +46,5 @@ pub returns : goal.returns
 returns c =
     let s = c.args.self.now in
     let p = paged_puttable s c.args.number c.args.bytes.now c.requires in
-    paged_put s _ _ (vec_items c.write-pages.new.area) c.args.bytes.now c.push-reserved.ensures.items refl refl
-    (subst (λ z. laid (vec_items c.write-pages.new.area) z ≡ paste (laid (vec_items s.area) z) (1024 * s.used) c.args.bytes.now (length c.args.bytes.now)) c.deref.ensures.value c.write-pages.ensures.after) p.written
+    paged_put s _ _ (vec_items c.write_pages.new.area) c.args.bytes.now c.push_reserved.ensures.items refl refl
+    (subst (λ z. laid (vec_items c.write_pages.new.area) z ≡ paste (laid (vec_items s.area) z) (1024 * s.used) c.args.bytes.now (length c.args.bytes.now)) c.deref.ensures.value c.write_pages.ensures.after) p.written

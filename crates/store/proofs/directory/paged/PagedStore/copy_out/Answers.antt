@@ -23,7 +23,7 @@ overflow-mul-at c =
     let s = c.args.self.now in
     let f = subst (λ z. PartFound z c.args.number c.args.from (length c.args.out.now) (Ok c.in-Ok.i)) c.deref.ensures.value c.in-Ok.ensures in
     let l = lies_within paged_room paged_roomy pages (vec_len s.order) (vec_items s.entries) c.in-Ok.i (bytes s) f.0.0 (sizes s).inside in
-    let t = c.pages-before.ensures ∙ ap (λ z. total pages (take c.in-Ok.i z)) c.deref-in-Ok.ensures.value in
+    let t = c.pages_before.ensures ∙ ap (λ z. total pages (take c.in-Ok.i z)) c.deref-in-Ok.ensures.value in
     let r = room_total (take c.in-Ok.i (vec_items s.entries)) in
     omega (arith, l, t, r, (sizes s).laid, s.bounds.2)
 
@@ -32,16 +32,16 @@ overflow-add-at c =
     let s = c.args.self.now in
     let f = subst (λ z. PartFound z c.args.number c.args.from (length c.args.out.now) (Ok c.in-Ok.i)) c.deref.ensures.value c.in-Ok.ensures in
     let l = lies_within paged_room paged_roomy pages (vec_len s.order) (vec_items s.entries) c.in-Ok.i (bytes s) f.0.0 (sizes s).inside in
-    let t = c.pages-before.ensures ∙ ap (λ z. total pages (take c.in-Ok.i z)) c.deref-in-Ok.ensures.value in
+    let t = c.pages_before.ensures ∙ ap (λ z. total pages (take c.in-Ok.i z)) c.deref-in-Ok.ensures.value in
     let r = room_total (take c.in-Ok.i (vec_items s.entries)) in
     omega (arith, l, t, r, f.1, (sizes s).laid, s.bounds.2)
 
-pub read-at-requires : goal.read-at-requires
-read-at-requires c =
+pub read_at-requires : goal.read_at-requires
+read_at-requires c =
     let s = c.args.self.now in
     let f = subst (λ z. PartFound z c.args.number c.args.from (length c.args.out.now) (Ok c.in-Ok.i)) c.deref.ensures.value c.in-Ok.ensures in
     let l = lies_within paged_room paged_roomy pages (vec_len s.order) (vec_items s.entries) c.in-Ok.i (bytes s) f.0.0 (sizes s).inside in
-    let t = c.pages-before.ensures ∙ ap (λ z. total pages (take c.in-Ok.i z)) c.deref-in-Ok.ensures.value in
+    let t = c.pages_before.ensures ∙ ap (λ z. total pages (take c.in-Ok.i z)) c.deref-in-Ok.ensures.value in
     let r = room_total (take c.in-Ok.i (vec_items s.entries)) in
     omega (arith, l, t, r, f.1, (sizes s).laid)
 
@@ -52,8 +52,8 @@ returns-in-Ok c =
     let i = c.in-Ok.i in
     let count = length c.args.out.now in
     let f = subst (λ z. PartFound z c.args.number c.args.from (length c.args.out.now) (Ok c.in-Ok.i)) c.deref.ensures.value c.in-Ok.ensures in
-    let t : c.pages-before.result ≡ total pages (take i es) = c.pages-before.ensures ∙ ap (λ z. total pages (take c.in-Ok.i z)) c.deref-in-Ok.ensures.value in
-    let r : total paged_room (take i es) ≡ 1024 * c.pages-before.result = room_total (take i es) ∙ ap (λ z. 1024 * z) (sym t) in (
+    let t : c.pages_before.result ≡ total pages (take i es) = c.pages_before.ensures ∙ ap (λ z. total pages (take c.in-Ok.i z)) c.deref-in-Ok.ensures.value in
+    let r : total paged_room (take i es) ≡ 1024 * c.pages_before.result = room_total (take i es) ∙ ap (λ z. 1024 * z) (sym t) in (
       get_granted paged_room paged_roomy pages (vec_len s.order) es (bytes s) c.args.number i c.args.from count f.0 s.listed.0 (sizes s).inside f.1,
-      c.read-at.ensures ∙ ap (λ z. take count (drop (z + c.args.from) (bytes s))) (sym r) ∙ sym (part_at paged_room paged_roomy pages (vec_len s.order) es (bytes s) c.args.number i c.args.from count f.0 s.listed.0 f.1),
+      c.read_at.ensures ∙ ap (λ z. take count (drop (z + c.args.from) (bytes s))) (sym r) ∙ sym (part_at paged_room paged_roomy pages (vec_len s.order) es (bytes s) c.args.number i c.args.from count f.0 s.listed.0 f.1),
     )

@@ -13,8 +13,8 @@ use Rattle.store.proofs.directory.paged.PagedStore.land.Goals as goal
 pub overflow-sub-self : goal.overflow-sub-self
 overflow-sub-self c = let s = c.args.self.now in some_waits (vec_items s.entries) c.args.i s.waiting (omega (arith, s.entries.ok.0)) c.requires.pending s.listed
 
-pub invariant-of-self : goal.invariant-of-self
-invariant-of-self c =
+pub invariant_of-self : goal.invariant_of-self
+invariant_of-self c =
     let s = c.args.self.now in
     let h : c.args.i < length (vec_items s.entries) = omega (arith, s.entries.ok.0) in (
       listed_risen (vec_items s.entries) _ c.args.i s.waiting h c.requires.pending c.raise.ensures.items s.listed,

@@ -14,4 +14,4 @@ pub returns-in-Some : goal.returns-in-Some
 returns-in-Some c =
     let s = c.args.self.now in
     let f = subst (λ z. Found z c.args.number (Some c.in-Some.i)) c.deref.ensures.value c.in-Some.ensures in
-    sized_found paged_room paged_roomy pages (vec_len s.order) (vec_items s.entries) (bytes s) c.args.number c.in-Some.i _ f s.listed.0 (sizes s).inside (c.length-at.ensures ∙ ap (λ z. (here z c.in-Some.i).length) c.deref-in-Some.ensures.value)
+    sized_found paged_room paged_roomy pages (vec_len s.order) (vec_items s.entries) (bytes s) c.args.number c.in-Some.i _ f s.listed.0 (sizes s).inside (c.length_at.ensures ∙ ap (λ z. (here z c.in-Some.i).length) c.deref-in-Some.ensures.value)

@@ -10,8 +10,8 @@ use Rattle.store.proofs.PageSteps.{moved_once}
 use Rattle.store.proofs.PagedMoves.{paged_roomy, bytes, sizes, paged_refusal, paged_puttable, paged_sums_push, paged_area_same, paged_put, paged_sums_risen, paged_stands, paged_sums_removed, paged_area_moved, paged_taken_out, newest_last}
 use Rattle.store.proofs.directory.paged.PagedStore.read_at.Goals as goal
 
-pub read-pages-requires : goal.read-pages-requires
-read-pages-requires c =
+pub read_pages-requires : goal.read_pages-requires
+read_pages-requires c =
     let s = c.args.self.now in
     let v = c.deref-2.ensures.value in
     let u = c.deref.ensures.value in
@@ -28,4 +28,4 @@ read-pages-requires c =
 pub returns : goal.returns
 returns c =
     let s = c.args.self.now in
-    c.read-pages.ensures ∙ ap (λ z. take (length c.args.out.now) (drop c.args.at (laid z c.deref-2.result.now))) c.deref.ensures.value ∙ ap (λ z. take (length c.args.out.now) (drop c.args.at (laid (vec_items s.area) z))) c.deref-2.ensures.value
+    c.read_pages.ensures ∙ ap (λ z. take (length c.args.out.now) (drop c.args.at (laid z c.deref-2.result.now))) c.deref.ensures.value ∙ ap (λ z. take (length c.args.out.now) (drop c.args.at (laid (vec_items s.area) z))) c.deref-2.ensures.value

@@ -11,27 +11,27 @@ use Rattle.store.proofs.PagedMoves.{paged_roomy, bytes, sizes, paged_refusal, pa
 use Rattle.store.proofs.directory.paged.PagedStore.remove.Goals as goal
 
 pub retire-requires : goal.retire-requires
-retire-requires c = let s = c.args.self.now in (paged_stands s c.args.i c.pages-before-first.result c.page-count-count.result c.take-out-e.result c.requires (c.pages-before-first.ensures ∙ ap (λ z. total pages (take c.args.i z)) c.deref.ensures.value) c.take-out-e.ensures.gone c.page-count-count.ensures).within
+retire-requires c = let s = c.args.self.now in (paged_stands s c.args.i c.pages_before-first.result c.page_count-count.result c.take_out-e.result c.requires (c.pages_before-first.ensures ∙ ap (λ z. total pages (take c.args.i z)) c.deref.ensures.value) c.take_out-e.ensures.gone c.page_count-count.ensures).within
 
 pub overflow-sub-self : goal.overflow-sub-self
-overflow-sub-self c = let s = c.args.self.now in let b = (paged_stands s c.args.i c.pages-before-first.result c.page-count-count.result c.take-out-e.result c.requires (c.pages-before-first.ensures ∙ ap (λ z. total pages (take c.args.i z)) c.deref.ensures.value) c.take-out-e.ensures.gone c.page-count-count.ensures).back in omega (arith, b)
+overflow-sub-self c = let s = c.args.self.now in let b = (paged_stands s c.args.i c.pages_before-first.result c.page_count-count.result c.take_out-e.result c.requires (c.pages_before-first.ensures ∙ ap (λ z. total pages (take c.args.i z)) c.deref.ensures.value) c.take_out-e.ensures.gone c.page_count-count.ensures).back in omega (arith, b)
 
 pub overflow-sub-self-2 : goal.overflow-sub-self-2
-overflow-sub-self-2 c = let s = c.args.self.now in waits_here (vec_items s.entries) c.args.i s.waiting _ _ (omega (arith, s.entries.ok.0)) c.take-out-e.ensures.gone s.listed c.pending-count.ensures
+overflow-sub-self-2 c = let s = c.args.self.now in waits_here (vec_items s.entries) c.args.i s.waiting _ _ (omega (arith, s.entries.ok.0)) c.take_out-e.ensures.gone s.listed c.pending_count.ensures
 
-pub invariant-of-self : goal.invariant-of-self
-invariant-of-self c =
+pub invariant_of-self : goal.invariant_of-self
+invariant_of-self c =
     let s = c.args.self.now in
-    let k = paged_stands s c.args.i c.pages-before-first.result c.page-count-count.result c.take-out-e.result c.requires (c.pages-before-first.ensures ∙ ap (λ z. total pages (take c.args.i z)) c.deref.ensures.value) c.take-out-e.ensures.gone c.page-count-count.ensures in
-    let w = waits_here (vec_items s.entries) c.args.i s.waiting _ _ k.inside c.take-out-e.ensures.gone s.listed c.pending-count.ensures in
-    let z = ap (λ y. waits (y ∷ [])) c.take-out-e.ensures.gone in
-    let q = c.pending-count.ensures in (
-      listed_removed (vec_items s.entries) _ c.args.i s.waiting _ k.inside c.take-out-e.ensures.items (omega (arith, w, z, q)) s.listed,
+    let k = paged_stands s c.args.i c.pages_before-first.result c.page_count-count.result c.take_out-e.result c.requires (c.pages_before-first.ensures ∙ ap (λ z. total pages (take c.args.i z)) c.deref.ensures.value) c.take_out-e.ensures.gone c.page_count-count.ensures in
+    let w = waits_here (vec_items s.entries) c.args.i s.waiting _ _ k.inside c.take_out-e.ensures.gone s.listed c.pending_count.ensures in
+    let z = ap (λ y. waits (y ∷ [])) c.take_out-e.ensures.gone in
+    let q = c.pending_count.ensures in (
+      listed_removed (vec_items s.entries) _ c.args.i s.waiting _ k.inside c.take_out-e.ensures.items (omega (arith, w, z, q)) s.listed,
       (
-        paged_sums_removed s c.args.i c.pages-before-first.result c.page-count-count.result _ _ k c.take-out-e.ensures.items c.retire.ensures.len,
+        paged_sums_removed s c.args.i c.pages_before-first.result c.page_count-count.result _ _ k c.take_out-e.ensures.items c.retire.ensures.len,
         (
-          moved_once (vec_items s.order) _ c.pages-before-first.result c.page-count-count.result c.retire.ensures.items s.once,
-          (paged_area_moved s c.args.i c.pages-before-first.result c.page-count-count.result _ _ _ k c.retire.ensures.items c.retire.ensures.len c.take-out-e.ensures.capacity, tt),
+          moved_once (vec_items s.order) _ c.pages_before-first.result c.page_count-count.result c.retire.ensures.items s.once,
+          (paged_area_moved s c.args.i c.pages_before-first.result c.page_count-count.result _ _ _ k c.retire.ensures.items c.retire.ensures.len c.take_out-e.ensures.capacity, tt),
         ),
       ),
     )
@@ -39,9 +39,9 @@ invariant-of-self c =
 pub returns : goal.returns
 returns c =
     let s = c.args.self.now in
-    let k = paged_stands s c.args.i c.pages-before-first.result c.page-count-count.result c.take-out-e.result c.requires (c.pages-before-first.ensures ∙ ap (λ z. total pages (take c.args.i z)) c.deref.ensures.value) c.take-out-e.ensures.gone c.page-count-count.ensures in
-    let t = paged_taken_out s c.args.i c.pages-before-first.result c.page-count-count.result (vec_items c.take-out-e.new.entries) (vec_items c.retire.new.order) (vec_len c.retire.new.order) k c.take-out-e.ensures.items c.retire.ensures.items c.retire.ensures.len in
-    let w = waits_here (vec_items s.entries) c.args.i s.waiting _ _ k.inside c.take-out-e.ensures.gone s.listed c.pending-count.ensures in
-    let z = ap (λ y. waits (y ∷ [])) c.take-out-e.ensures.gone in
-    let q = c.pending-count.ensures in
+    let k = paged_stands s c.args.i c.pages_before-first.result c.page_count-count.result c.take_out-e.result c.requires (c.pages_before-first.ensures ∙ ap (λ z. total pages (take c.args.i z)) c.deref.ensures.value) c.take_out-e.ensures.gone c.page_count-count.ensures in
+    let t = paged_taken_out s c.args.i c.pages_before-first.result c.page_count-count.result (vec_items c.take_out-e.new.entries) (vec_items c.retire.new.order) (vec_len c.retire.new.order) k c.take_out-e.ensures.items c.retire.ensures.items c.retire.ensures.len in
+    let w = waits_here (vec_items s.entries) c.args.i s.waiting _ _ k.inside c.take_out-e.ensures.gone s.listed c.pending_count.ensures in
+    let z = ap (λ y. waits (y ∷ [])) c.take_out-e.ensures.gone in
+    let q = c.pending_count.ensures in
     record { landed = t.landed; pending = t.pending; fewer = omega (arith, w, z, q) }

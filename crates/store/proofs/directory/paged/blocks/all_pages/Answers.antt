@@ -5,7 +5,7 @@ use Rattle.store.proofs.Laid.{counting_more, copies_counting, below_counting}
 use Rattle.store.proofs.directory.paged.blocks.all_pages.Goals as goal
 
 pub loop-page-preserved : goal.loop-page-preserved
-loop-page-preserved c = (c.push-reserved.ensures.items ∙ ap (λ z. z ++ c.loop-page.page ∷ []) c.loop-page.invariant.0 ∙ sym (counting_more c.loop-page.page), omega (arith, c.push-reserved.ensures.len, c.loop-page.invariant.1), omega (arith, c.push-reserved.ensures.capacity, c.loop-page.invariant.2))
+loop-page-preserved c = (c.push_reserved.ensures.items ∙ ap (λ z. z ++ c.loop-page.page ∷ []) c.loop-page.invariant.0 ∙ sym (counting_more c.loop-page.page), omega (arith, c.push_reserved.ensures.len, c.loop-page.invariant.1), omega (arith, c.push_reserved.ensures.capacity, c.loop-page.invariant.2))
 
 pub returns : goal.returns
 returns c =
