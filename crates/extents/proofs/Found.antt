@@ -1,6 +1,6 @@
 -- The extent at which `reached` stops. Assumes nothing.
 use Rattle.std.proofs.Common.{◌≡◌, ℕ, ◌+◌, ◌-◌, ◌<◌, ◌≤◌, Bool, true, false, cond, List, [], ◌∷◌, length, get_or, take, drop, Some, None, Option, sym, refl, ap, ◌∙◌, subst, arith}
-use Rattle.std.proofs.lemmas.Bool.{cond_true}
+use Rattle.std.proofs.lemmas.Bool.{cond-true}
 use Rattle.std.proofs.lemmas.List.{drop_all}
 use Rattle.extents.specs.declared.extent.Extent.{Extent}
 use Rattle.extents.specs.Laws.{Laws, fitting}
@@ -41,5 +41,5 @@ module _ {T : Type 0} {adv : T → ℕ → T} {same : T → T → Bool} {fits : 
       pub found_target : (n : ℕ) → all_in_range adv fits n xs ≡ true → e.first ≤ b → fitting fits (adv e.target (b - e.first)) ≡ target_at adv xs b
       found_target n h m =
           let p = found_end e l q in
-          cond_true (fits (adv e.target (b - e.first))) _ _ (found_fits e l q n (b - e.first) h (omega arith))
+          cond-true (fits (adv e.target (b - e.first))) _ _ (found_fits e l q n (b - e.first) h (omega arith))
           ∙ sym (found_at ∙ ap (λ zs. target_at adv zs b) (entry_is xs i e l q) ∙ inside adv e _ b m (omega arith))

@@ -1,6 +1,6 @@
 -- What an insertion gives. Assumes nothing.
 use Rattle.std.proofs.Common.{◌≡◌, ℕ, ◌+◌, ◌-◌, ◌^◌, ◌<◌, ◌≤◌, Bool, true, false, cond, ◌&&◌, eqb, ltb, leb, List, [], ◌∷◌, ◌++◌, length, take, drop, Some, None, Option, sym, refl, ap, ◌∙◌, subst, inl, inr, ⊎_elim, arith}
-use Rattle.std.proofs.lemmas.Bool.{cond_true, cond_false, cond_both, and_from, and_left, and_right, le-leb, lt-leb, leb-true, leb-false, lt-ltb, le-ltb, ltb-true, ltb-false, ne_eqb, cases_lt}
+use Rattle.std.proofs.lemmas.Bool.{cond-true, cond-false, cond_both, and_from, and_left, and_right, le-leb, lt-leb, leb-true, leb-false, lt-ltb, le-ltb, ltb-true, ltb-false, ne_eqb, cases_lt}
 use Rattle.std.proofs.lemmas.List.{take-append-drop, take-take, drop-drop}
 use Rattle.extents.specs.declared.extent.Extent.{Extent}
 use Rattle.extents.specs.Laws.{Laws}
@@ -163,18 +163,18 @@ module _ {T : Type 0} {adv : T → ℕ → T} {same : T → T → Bool} {fits : 
         (λ (l : b < a).
         target_behind adv b (take (reach a xs) xs) Z zs (left_below a rest rest_from rest_table zs b (past_reach a xs) (table_drop adv (reach a xs) xs tab) l)
         ∙ ap (λ us. target_at adv us b) (take-append-drop (reach a xs) xs)
-        ∙ sym (cond_false (covers e b) _ _ (and_left (leb a b) _ (lt-leb _ _ l))))
+        ∙ sym (cond-false (covers e b) _ _ (and_left (leb a b) _ (lt-leb _ _ l))))
         (λ (l : a ≤ b).
         target_after adv a b xs Z (omega arith)
         ∙ left_above a rest rest_from rest_table zs b l
         ∙ joined_target laws e (right_list adv (end e) ys) b
         ∙ ⊎_elim
-        (λ (k : b < end e). inside adv e (right_list adv (end e) ys) b l k ∙ sym (cond_true (covers e b) _ _ (and_from _ _ (le-leb _ _ l) (lt-ltb _ _ k))))
+        (λ (k : b < end e). inside adv e (right_list adv (end e) ys) b l k ∙ sym (cond-true (covers e b) _ _ (and_from _ _ (le-leb _ _ l) (lt-ltb _ _ k))))
         (λ (k : end e ≤ b).
         beyond adv e (right_list adv (end e) ys) b k
         ∙ right_target (end e) ys b (past_reach (end e + 1) xs) k
         ∙ sym (target_from adv (end e + 1) b xs (omega arith))
-        ∙ sym (cond_false (covers e b) _ _ (and_right (leb a b) _ (le-ltb _ _ k))))
+        ∙ sym (cond-false (covers e b) _ _ (and_right (leb a b) _ (le-ltb _ _ k))))
         (cases_lt b (end e)))
         (cases_lt b a)
 
@@ -194,15 +194,15 @@ module _ {T : Type 0} (adv : T → ℕ → T) (same : T → T → Bool) where
       ⊎_elim
       (λ (l : x.first ≤ end e).
       let t = le-leb x.first (end e) l in
-      let p = cond_true (leb x.first (end e)) (without adv (end e - x.first) x ∷ xs) (x ∷ xs) t in
-      let q = cond_true (leb x.first (end e)) (Some (without adv (end e - x.first) x)) None t in
+      let p = cond-true (leb x.first (end e)) (without adv (end e - x.first) x ∷ xs) (x ∷ xs) t in
+      let q = cond-true (leb x.first (end e)) (Some (without adv (end e - x.first) x)) None t in
       subst (λ l. P l (right_of adv (end e) x)) (sym p) (subst (P (without adv (end e - x.first) x ∷ xs)) (sym q) (first_joined e (without adv (end e - x.first) x) xs)))
       (λ (l : end e < x.first).
       let t = lt-leb x.first (end e) l in
-      let p = cond_false (leb x.first (end e)) (without adv (end e - x.first) x ∷ xs) (x ∷ xs) t in
-      let q = cond_false (leb x.first (end e)) (Some (without adv (end e - x.first) x)) None t in
+      let p = cond-false (leb x.first (end e)) (without adv (end e - x.first) x ∷ xs) (x ∷ xs) t in
+      let q = cond-false (leb x.first (end e)) (Some (without adv (end e - x.first) x)) None t in
       subst (λ l. P l (right_of adv (end e) x)) (sym p)
-      (subst (P (x ∷ xs)) (sym q) (cond_false (goes_on adv same e x) _ _ (and_left _ _ (ne_eqb (end e) x.first (λ (q : end e ≡ x.first). omega arith))))))
+      (subst (P (x ∷ xs)) (sym q) (cond-false (goes_on adv same e x) _ _ (and_left _ _ (ne_eqb (end e) x.first (λ (q : end e ≡ x.first). omega arith))))))
       (⊎_elim (λ (h : end e < x.first). inr h) (λ (h : x.first ≤ end e). inl h) (cases_lt (end e) x.first))
 
   pub left_parts : (a : ℕ) (m : Extent T) (M zs : List (Extent T)) → left_list adv same a (m ∷ M) zs ≡ joined_onto adv same (at_head (left_of a) zs) m ++ M
@@ -213,11 +213,11 @@ module _ {T : Type 0} (adv : T → ℕ → T) (same : T → T → Bool) where
       ⊎_elim
       (λ (l : x.first < a).
       let t = lt-ltb x.first a l in
-      cond_true (ltb x.first a) (joined adv same f (m ∷ M)) (m ∷ M) t
+      cond-true (ltb x.first a) (joined adv same f (m ∷ M)) (m ∷ M) t
       ∙ first_joined f m M
-      ∙ ap (λ o. joined_onto adv same o m ++ M) (sym (cond_true (ltb x.first a) (Some f) None t)))
+      ∙ ap (λ o. joined_onto adv same o m ++ M) (sym (cond-true (ltb x.first a) (Some f) None t)))
       (λ (l : a ≤ x.first).
       let t = le-ltb x.first a l in
-      cond_false (ltb x.first a) (joined adv same f (m ∷ M)) (m ∷ M) t
-      ∙ ap (λ o. joined_onto adv same o m ++ M) (sym (cond_false (ltb x.first a) (Some f) None t)))
+      cond-false (ltb x.first a) (joined adv same f (m ∷ M)) (m ∷ M) t
+      ∙ ap (λ o. joined_onto adv same o m ++ M) (sym (cond-false (ltb x.first a) (Some f) None t)))
       (cases_lt x.first a)

@@ -1,7 +1,7 @@
 -- What a drop keeps. Assumes nothing.
 use Rattle.std.proofs.Common.{◌≡◌, ℕ, ◌+◌, ◌-◌, ◌^◌, ◌<◌, ◌≤◌, Bool, true, false, cond, ltb, List, [], ◌∷◌, ◌++◌, length, get_or, take, drop, set, Some, None, Option, sym, refl, ap, ◌∙◌, subst, ⊎_elim, arith}
 use Rattle.std.proofs.lemmas.Bool.{cond-true, cond-false, cases_lt, ltb-true, ltb-false, lt-ltb, le-ltb}
-use Rattle.std.proofs.lemmas.List.{get_or-drop, drop-drop, drop_set_lt, take_more_set, append_assoc}
+use Rattle.std.proofs.lemmas.List.{get_or-drop, drop-drop, drop-set-lt, take_more_set, append_assoc}
 use Rattle.extents.specs.declared.extent.Extent.{Extent}
 use Rattle.extents.specs.Laws.{Laws}
 use Rattle.extents.specs.Order.{unless_below}
@@ -136,7 +136,7 @@ module _ {T : Type 0} (adv : T → ℕ → T) (short : T → ℕ) (s s₀ : List
 
     pub turn_some : (y : Extent T) → o ≡ Some y → (drop (i + 1) (set s to y) ≡ drop (i + 1) s₀) × (take (to + 1) (set s to y) ++ sieved adv short (drop (i + 1) s₀) ≡ sieved adv short s₀)
     turn_some y n = (
-      drop_set_lt (i + 1) s to y (omega arith) ∙ rest_same,
+      drop-set-lt (i + 1) s to y (omega arith) ∙ rest_same,
       ap (λ m. m ++ sieved adv short (drop (i + 1) s₀)) (take_more_set s to y (omega arith))
           ∙ append_assoc (take to s) (y ∷ []) _
           ∙ ap (λ p. take to s ++ (listed p ++ sieved adv short (drop (i + 1) s₀))) (sym n)

@@ -21,7 +21,7 @@ fn ends_before<T: Target>(e: Extent<T>, x: u64) -> bool
 
 // How many extents end before x.
 fn reached<T: Target>(s: &[Extent<T>], x: u64) -> usize
-    requires { is_table advanced same s.now ≡ true }
+    requires { is_table T.advanced T.same s.now ≡ true }
     ensures { result ≡ reach x s.now }
 {
     let mut low = 0;
@@ -39,9 +39,9 @@ fn reached<T: Target>(s: &[Extent<T>], x: u64) -> usize
 
 // The target of a block.
 fn lookup<T: Target>(s: &[Extent<T>], block: u32) -> Option<T>
-    requires table { is_table advanced same s.now ≡ true }
-    requires range { all_in_range advanced fits (2 ^ 32 - 1) s.now ≡ true }
-    ensures { result ≡ target_at advanced s.now block }
+    requires table { is_table T.advanced T.same s.now ≡ true }
+    requires range { all_in_range T.advanced T.fits (2 ^ 32 - 1) s.now ≡ true }
+    ensures { result ≡ target_at T.advanced s.now block }
 {
     let i = reached(s, block as u64 + 1);
     if i < s.len() {
@@ -55,7 +55,7 @@ fn lookup<T: Target>(s: &[Extent<T>], block: u32) -> Option<T>
 
 // Whether `next` begins where `e` ends, with the target that is next there.
 fn goes_on<T: Target>(e: Extent<T>, next: Extent<T>) -> bool
-    ensures { result ≡ goes_on advanced same e next }
+    ensures { result ≡ goes_on T.advanced T.same e next }
 {
     e.first as u64 + e.length as u64 == next.first as u64
         && e.target.leads_to(e.length, next.target)
@@ -64,7 +64,7 @@ fn goes_on<T: Target>(e: Extent<T>, next: Extent<T>) -> bool
 // `e`, and `next` after it unless the two are joined.
 fn join<T: Target>(e: Extent<T>, next: Extent<T>) -> (Extent<T>, Option<Extent<T>>)
     requires { end next < 2 ^ 32 }
-    ensures { joined advanced same e (next ∷ []) ≡ result.0 ∷ listed result.1 }
+    ensures { joined T.advanced T.same e (next ∷ []) ≡ result.0 ∷ listed result.1 }
 {
     if goes_on(e, next) {
         let whole = Extent {
@@ -81,7 +81,7 @@ fn join<T: Target>(e: Extent<T>, next: Extent<T>) -> (Extent<T>, Option<Extent<T
 // `e` and what lies right of it, joined.
 fn join_right<T: Target>(e: Extent<T>, right: Option<Extent<T>>) -> (Extent<T>, Option<Extent<T>>)
     requires { EndsInWidth right }
-    ensures { joined advanced same e (listed right) ≡ result.0 ∷ listed result.1 }
+    ensures { joined T.advanced T.same e (listed right) ≡ result.0 ∷ listed result.1 }
 {
     match right {
         Some(x) => join(e, x),
@@ -92,7 +92,7 @@ fn join_right<T: Target>(e: Extent<T>, right: Option<Extent<T>>) -> (Extent<T>, 
 // What lies left of `e`, and `e`, joined.
 fn join_left<T: Target>(left: Option<Extent<T>>, e: Extent<T>) -> (Extent<T>, Option<Extent<T>>)
     requires { end e < 2 ^ 32 }
-    ensures { joined_onto advanced same left e ≡ result.0 ∷ listed result.1 }
+    ensures { joined_onto T.advanced T.same left e ≡ result.0 ∷ listed result.1 }
 {
     match left {
         Some(x) => join(x, e),
@@ -118,8 +118,8 @@ fn cut_left<T: Target>(e: Extent<T>, a: u32) -> Option<Extent<T>>
 // What `e`, which ends past the block `c`, has from `c` on.
 fn cut_right<T: Target>(e: Extent<T>, c: u32) -> Option<Extent<T>>
     requires ends { c < end e }
-    requires fits { e.first ≤ c → fits (advanced e.target (c - e.first)) ≡ true }
-    ensures { result ≡ right_of advanced c e }
+    requires fits { e.first ≤ c → T.fits (T.advanced e.target (c - e.first)) ≡ true }
+    ensures { result ≡ right_of T.advanced c e }
 {
     if e.first <= c {
         Some(Extent {
@@ -142,8 +142,8 @@ fn left_at<T: Target>(s: &[Extent<T>], i: usize, a: u32) -> Option<Extent<T>>
 // What the extent at `j`, the first that ends past the block `c`, has from `c` on.
 fn right_at<T: Target>(s: &[Extent<T>], j: usize, c: u32) -> Option<Extent<T>>
     requires first { j ≡ reach (c + 1) s.now }
-    requires range { all_in_range advanced fits (2 ^ 32 - 1) s.now ≡ true }
-    ensures { result ≡ at_head (right_of advanced c) (drop j s.now) }
+    requires range { all_in_range T.advanced T.fits (2 ^ 32 - 1) s.now ≡ true }
+    ensures { result ≡ at_head (right_of T.advanced c) (drop j s.now) }
 {
     if j < s.len() {
         cut_right(s[j], c)
@@ -216,13 +216,13 @@ fn put<X: Copy>(
 // Gives the blocks of `e` their targets, in the table of the first `count` extents.
 fn insert<T: Target>(s: &mut [Extent<T>], count: usize, e: Extent<T>) -> usize
     requires room { count + 2 ≤ length s.old }
-    requires table { is_table advanced same (take count s.old) ≡ true }
-    requires range { all_in_range advanced fits (2 ^ 32 - 1) (take count s.old) ≡ true }
+    requires table { is_table T.advanced T.same (take count s.old) ≡ true }
+    requires range { all_in_range T.advanced T.fits (2 ^ 32 - 1) (take count s.old) ≡ true }
     requires some { 1 ≤ e.length }
-    requires fits { in_range advanced fits (2 ^ 32 - 1) e ≡ true }
-    ensures table { is_table advanced same (take result s.new) ≡ true }
-    ensures range { (n : ℕ) → in_range advanced fits n e ≡ true → all_in_range advanced fits n (take count s.old) ≡ true → all_in_range advanced fits n (take result s.new) ≡ true }
-    ensures targets { (b : ℕ) → target_at advanced (take result s.new) b ≡ overlaid advanced e (target_at advanced (take count s.old)) b }
+    requires fits { in_range T.advanced T.fits (2 ^ 32 - 1) e ≡ true }
+    ensures table { is_table T.advanced T.same (take result s.new) ≡ true }
+    ensures range { (n : ℕ) → in_range T.advanced T.fits n e ≡ true → all_in_range T.advanced T.fits n (take count s.old) ≡ true → all_in_range T.advanced T.fits n (take result s.new) ≡ true }
+    ensures targets { (b : ℕ) → target_at T.advanced (take result s.new) b ≡ overlaid T.advanced e (target_at T.advanced (take count s.old)) b }
 {
     let after = e.first + e.length;
     let i = reached(&s[..count], e.first as u64);
@@ -236,16 +236,16 @@ fn insert<T: Target>(s: &mut [Extent<T>], count: usize, e: Extent<T>) -> usize
 
 // Whether `e` may stand right after `last`.
 fn may_follow<T: Target>(last: Extent<T>, e: Extent<T>) -> bool
-    ensures { result ≡ may_follow advanced same last (e ∷ []) }
+    ensures { result ≡ may_follow T.advanced T.same last (e ∷ []) }
 {
     last.first as u64 + last.length as u64 <= e.first as u64 && !goes_on(last, e)
 }
 
 // Whether the table is still one with `e` after it.
 fn extends<T: Target>(s: &[Extent<T>], e: Extent<T>) -> bool
-    requires table { is_table advanced same s.now ≡ true }
+    requires table { is_table T.advanced T.same s.now ≡ true }
     requires some { 1 ≤ e.length }
-    ensures { result ≡ is_table advanced same (s.now ++ e ∷ []) }
+    ensures { result ≡ is_table T.advanced T.same (s.now ++ e ∷ []) }
 {
     let n = s.len();
     if n == 0 {
@@ -257,8 +257,8 @@ fn extends<T: Target>(s: &[Extent<T>], e: Extent<T>) -> bool
 // What `e` has from the target `limit` on.
 fn keep<T: Ordered>(e: Extent<T>, limit: T) -> Option<Extent<T>>
     requires ends { end e < 2 ^ 32 }
-    requires fits { short e.target limit < e.length → T.Target.fits (T.Target.advanced e.target (short e.target limit)) ≡ true }
-    ensures { result ≡ kept_of T.Target.advanced (λ t. short t limit) e }
+    requires fits { T.short e.target limit < e.length → T.Target.fits (T.Target.advanced e.target (T.short e.target limit)) ≡ true }
+    ensures { result ≡ kept_of T.Target.advanced (λ t. T.short t limit) e }
 {
     let short = e.target.short_of(limit);
     if short < e.length as u64 {
@@ -276,7 +276,7 @@ fn keep<T: Ordered>(e: Extent<T>, limit: T) -> Option<Extent<T>>
 // Takes away every target below `limit`, and answers how many extents are left.
 fn drop_below<T: Ordered>(s: &mut [Extent<T>], limit: T) -> usize
     requires { all_in_range T.Target.advanced T.Target.fits (2 ^ 32 - 1) s.old ≡ true }
-    ensures { take result s.new ≡ sieved T.Target.advanced (λ t. short t limit) s.old }
+    ensures { take result s.new ≡ sieved T.Target.advanced (λ t. T.short t limit) s.old }
 {
     let mut to = 0;
     for i in 0..s.len() {

@@ -1,6 +1,6 @@
 -- Writing a write's records into their slots.
 use Rattle.std.proofs.Common.{◌≡◌, ℕ, zero, suc, ◌+◌, ◌-◌, ◌*◌, ◌/◌, ◌%◌, ◌^◌, ◌<◌, ◌≤◌, Bool, true, false, cond, not, ◌&&◌, eqb, ltb, leb, ◌≢◌, List, [], ◌∷◌, length, get_or, take, drop, set, sym, refl, ap, ◌∙◌, subst, ⊎_elim, add-mul, add-one, arith}
-use Rattle.std.proofs.lemmas.List.{length-set, get_or-set_same, get_or_set_other}
+use Rattle.std.proofs.lemmas.List.{length-set, get_or-set_same, get_or-set_other}
 use Rattle.std.proofs.lemmas.Bool.{cases_lt, and_parts, not-false, leb-true, ltb-false}
 use Rattle.std.proofs.lemmas.Nat.{mod_below, div-add-mod', mul-le}
 use Rattle.drive.specs.Views.{Slot, DriveView, Wrote, slot_count, zero_slot}
@@ -79,7 +79,7 @@ module _ (slots : List Slot) (w a n : ℕ) (bytes : List ℕ) (some : 0 < length
       let other : (w + i) % length slots ≢ (w + m) % length slots = λ e.
       let s : (w + i) + (m - i) ≡ w + m = omega arith in
       apart (w + i) (m - i) (length slots) (omega arith) (omega arith) (e ∙ ap (λ r. r % length slots) (sym s)) in
-      get_or_set_other before ((w + m) % length slots) ((w + i) % length slots) (nth_slot w a n bytes m) zero_slot other
+      get_or-set_other before ((w + m) % length slots) ((w + i) % length slots) (nth_slot w a n bytes m) zero_slot other
       ∙ put_each m i h (omega arith))
       (λ (h : m ≤ i).
       let e : m ≡ i = omega arith in
@@ -93,7 +93,7 @@ module _ (slots : List Slot) (w a n : ℕ) (bytes : List ℕ) (some : 0 < length
   put_others zero k d none = refl
   put_others (suc m) k d none =
       let other : k ≢ (w + m) % length slots = λ e. none m (omega arith) (sym e) in
-      get_or_set_other (written slots w a n bytes m) ((w + m) % length slots) k (nth_slot w a n bytes m) d other
+      get_or-set_other (written slots w a n bytes m) ((w + m) % length slots) k (nth_slot w a n bytes m) d other
       ∙ put_others m k d (λ i below. none i (omega arith))
 
   module _ (near : w ≤ last_record) (one : 1 ≤ n) (few : n ≤ most_blocks) (inside : a + n ≤ 2 ^ 32) (fits : n ≤ length slots) where

@@ -2,7 +2,7 @@
 use Rattle.std.proofs.Common.{◌≡◌, ℕ, zero, suc, ◌+◌, ◌*◌, ◌<◌, ◌≤◌, Bool, true, ◌&&◌, List, [], ◌∷◌, ◌++◌, length, get_or, take, drop, sym, refl, ap, ◌∙◌, append_assoc, mul-zero, mul-suc, arith}
 use Rattle.std.specs.List.{flat_map}
 use Rattle.std.proofs.lemmas.Bool.{and_parts}
-use Rattle.std.proofs.lemmas.List.{length_append}
+use Rattle.std.proofs.lemmas.List.{length-append}
 use Rattle.objects.specs.Seen.{listed}
 use Rattle.objects.specs.Rules.{every}
 use Rattle.objects.proofs.Widths.{two_parts}
@@ -52,4 +52,4 @@ length_joined enc step each (x ∷ xs) =
     let p : step * suc (length xs) ≡ step * length xs + step = mul-suc step (length xs) in
     let here = each x in
     let rest = length_joined enc step each xs in
-    length_append (enc x) (flat_map enc xs) ∙ omega arith
+    length-append (enc x) (flat_map enc xs) ∙ omega arith

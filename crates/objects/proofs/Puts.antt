@@ -4,7 +4,7 @@ use Rattle.std.specs.List.{flat_map}
 use Rattle.objects.proofs.Lists.{length_joined}
 use lib.Seq.{take-append-add}
 use borrow.Rule.Slice.PartMut.{put_mid}
-use Rattle.std.proofs.lemmas.List.{length_append, length-take-le, length-drop, drop-drop, drop-take, drop-append-le, take_more, flat_map_more}
+use Rattle.std.proofs.lemmas.List.{length-append, length-take-le, length-drop, drop-drop, drop-take, drop-append-le, take_more, flat_map_more}
 use Rattle.std.proofs.lemmas.Slice.{take-put_mid, take-put_mid_below, drop-put_mid}
 use Rattle.endian.specs.Fields.{le, placed}
 use Rattle.endian.proofs.Laws.{length_le, placed_is}
@@ -13,7 +13,7 @@ pub length_put_mid : (at n : ℕ) (xs ys : List ℕ) → at + n ≤ length xs �
 length_put_mid at n xs ys room long =
     let front : length (take at xs) ≡ at = length-take-le at xs (omega arith) in
     let back : length (drop n (drop at xs)) ≡ length xs - at - n = simp (length-drop) in
-    length_append (take at xs) (ys ++ drop n (drop at xs)) ∙ ap (λ k. length (take at xs) + k) (length_append ys (drop n (drop at xs))) ∙ omega arith
+    length-append (take at xs) (ys ++ drop n (drop at xs)) ∙ ap (λ k. length (take at xs) + k) (length-append ys (drop n (drop at xs))) ∙ omega arith
 
 -- a part right after a part
 pub put_on : (at n m next : ℕ) (xs ys zs mid after : List ℕ) → at + n + m ≤ length xs → length ys ≡ n → next ≡ at + n → mid ≡ put_mid at n xs ys → after ≡ put_mid next m mid zs → after ≡ put_mid at (n + m) xs (ys ++ zs)

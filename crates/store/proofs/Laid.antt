@@ -1,11 +1,11 @@
 -- Pages one after another.
-use Rattle.std.proofs.Common.{◌≡◌, ℕ, zero, suc, ◌+◌, ◌-◌, ◌*◌, ◌/◌, ◌%◌, ◌<◌, ◌≤◌, Bool, true, false, cond, ◌&&◌, eqb, ltb, leb, List, [], ◌∷◌, ◌++◌, length, get_or, take, drop, sym, refl, ap, ◌∙◌, subst, ⊎_elim, arith, take_add, rules}
+use Rattle.std.proofs.Common.{◌≡◌, ℕ, zero, suc, ◌+◌, ◌-◌, ◌*◌, ◌/◌, ◌%◌, ◌<◌, ◌≤◌, Bool, true, false, cond, ◌&&◌, eqb, ltb, leb, List, [], ◌∷◌, ◌++◌, length, get_or, take, drop, sym, refl, ap, ◌∙◌, subst, ⊎_elim, arith, take-add, rules}
 use lib.Seq.{paste}
 use Rattle.std.proofs.lemmas.Bool.Decides.{nat_tests}
 use Rattle.std.proofs.lemmas.Bool.{and_parts, and_from, ltb-true, eqb-false, cases_lt, cases_eq, lt-ltb}
 use Rattle.std.specs.List.{range_with_len}
 use Rattle.std.proofs.lemmas.List.FromFn.{map-range_with_len_more}
-use Rattle.std.proofs.lemmas.List.{length_append, length-drop, length-take, length-take-le, take_at, drop_at, drop-drop, drop-take, take-take, take-append-drop, append_assoc, take-append-le, drop-append-le, drop_more, take_all, map-id}
+use Rattle.std.proofs.lemmas.List.{length-append, length-drop, length-take, length-take-le, take_at, drop_at, drop-drop, drop-take, take-take, take-append-drop, append_assoc, take-append-le, drop-append-le, drop_more, take_all, map-id}
 use Rattle.store.specs.PagedSound.{pages, paged_room, page, laid, copies, below}
 
 pub laid_append : (a ps qs : List ℕ) → laid a (ps ++ qs) ≡ laid a ps ++ laid a qs
@@ -29,7 +29,7 @@ length_laid a (p ∷ ps) n b e =
     let q = and_parts (ltb p n) (below n ps) b in
     let ih = length_laid a ps n q.1 e in
     let l = length_page a p n (ltb-true p n q.0) e in
-    length_append (page a p) (laid a ps) ∙ omega arith
+    length-append (page a p) (laid a ps) ∙ omega arith
 
 -- pages that are not written stay
 pub laid_else : (a b ps : List ℕ) (p : ℕ) → copies p ps ≡ 0 → ((q : ℕ) → (q ≡ p → ⊥) → page b q ≡ page a q) → laid b ps ≡ laid a ps
@@ -86,7 +86,7 @@ take_past : (xs ys : List ℕ) (m : ℕ) → take (length xs + m) (xs ++ ys) ≡
 take_past xs ys m =
     let t = take_at xs ys (length xs) refl in
     let d = drop_at xs ys (length xs) refl in
-    take_add (length xs) m (xs ++ ys) ∙ cc
+    take-add (length xs) m (xs ++ ys) ∙ cc
 
 -- the pages of an area of which the beginning of one was written
 pub page_written : (a bs : List ℕ) (p n : ℕ) → p < n → length a ≡ 1024 * n → length bs ≤ 1024
@@ -118,7 +118,7 @@ page_else a bs p q n h e k ne = ⊎_elim low high (cases_lt q p)
     high l =
         let g : p < q = omega (arith, ne) in
         let lt : length (take (1024 * p) a) ≡ 1024 * p = length-take-le (1024 * p) a (omega arith) in
-        let ll : length (take (1024 * p) a ++ bs) ≡ 1024 * p + length bs = length_append (take (1024 * p) a) bs ∙ ap (λ z. z + length bs) lt in
+        let ll : length (take (1024 * p) a ++ bs) ≡ 1024 * p + length bs = length-append (take (1024 * p) a) bs ∙ ap (λ z. z + length bs) lt in
         let s : 1024 * p + length bs + (1024 * q - (1024 * p + length bs)) ≡ 1024 * q = omega arith in
         let x : drop (1024 * p + length bs) (take (1024 * p) a ++ (bs ++ drop (1024 * p + length bs) a)) ≡ drop (1024 * p + length bs) a = ap (drop (1024 * p + length bs)) (sym (append_assoc (take (1024 * p) a) bs (drop (1024 * p + length bs) a))) ∙ drop_at (take (1024 * p) a ++ bs) (drop (1024 * p + length bs) a) (1024 * p + length bs) ll in
         let d = drop-drop (1024 * q - (1024 * p + length bs)) (1024 * p + length bs) in

@@ -25,7 +25,7 @@ struct Rows<T> {
 
 // Whether a map of so many blocks takes an extent, or why it does not.
 fn admit<T: Target>(blocks: u32, e: Extent<T>) -> Result<(), MapFault>
-    ensures { elim result [ Ok _ ↦ extent_refusal advanced fits blocks e ≡ None | Err f ↦ extent_refusal advanced fits blocks e ≡ Some (fault_number f) ] }
+    ensures { elim result [ Ok _ ↦ extent_refusal T.advanced T.fits blocks e ≡ None | Err f ↦ extent_refusal T.advanced T.fits blocks e ≡ Some (fault_number f) ] }
 {
     if e.length == 0 {
         return Err(MapFault::Empty);
@@ -42,7 +42,7 @@ fn admit<T: Target>(blocks: u32, e: Extent<T>) -> Result<(), MapFault>
 impl<T: Target> Rows<T> {
     fn with_room(heap: Global, blocks: u32) -> Result<Rows<T>, MapFault>
         ensures made { elim result [ Ok m ↦ Made blocks m | Err f ↦ fault_number f ≡ room_refusal blocks ] }
-        ensures sound { elim result [ Ok m ↦ sound advanced same fits m ≡ true | Err f ↦ Unit {0} ] }
+        ensures sound { elim result [ Ok m ↦ sound T.advanced T.same T.fits m ≡ true | Err f ↦ Unit {0} ] }
     {
         if blocks == 0 {
             return Err(MapFault::NoBlocks);
@@ -54,10 +54,10 @@ impl<T: Target> Rows<T> {
     }
 
     fn clear(&mut self)
-        requires { sound advanced same fits self.old ≡ true }
+        requires { sound T.advanced T.same T.fits self.old ≡ true }
         ensures empty { table_of self.new ≡ [] }
         ensures blocks { self.new.blocks ≡ self.old.blocks }
-        ensures sound { sound advanced same fits self.new ≡ true }
+        ensures sound { sound T.advanced T.same T.fits self.new ≡ true }
     {
         self.entries.clear();
     }
@@ -75,16 +75,16 @@ impl<T: Target> Rows<T> {
     }
 
     fn lookup(&self, block: u32) -> Option<T>
-        requires { sound advanced same fits self.now ≡ true }
-        ensures { result ≡ target_at advanced (table_of self.now) block }
+        requires { sound T.advanced T.same T.fits self.now ≡ true }
+        ensures { result ≡ target_at T.advanced (table_of self.now) block }
     {
         super::lookup(self.entries.as_slice(), block)
     }
 
     fn insert(&mut self, e: Extent<T>) -> Result<(), MapFault>
-        requires { sound advanced same fits self.old ≡ true }
-        ensures inserted { Inserted advanced same fits e self.old result self.new }
-        ensures sound { sound advanced same fits self.new ≡ true }
+        requires { sound T.advanced T.same T.fits self.old ≡ true }
+        ensures inserted { Inserted T.advanced T.same T.fits e self.old result self.new }
+        ensures sound { sound T.advanced T.same T.fits self.new ≡ true }
     {
         if let Err(f) = admit(self.blocks, e) {
             return Err(f);
@@ -95,12 +95,12 @@ impl<T: Target> Rows<T> {
 
     // Inserts an extent that the map takes.
     fn enter(&mut self, e: Extent<T>)
-        requires sound { sound advanced same fits self.old ≡ true }
-        requires taken { extent_refusal advanced fits self.old.blocks e ≡ None }
+        requires sound { sound T.advanced T.same T.fits self.old ≡ true }
+        requires taken { extent_refusal T.advanced T.fits self.old.blocks e ≡ None }
         ensures blocks { self.new.blocks ≡ self.old.blocks }
-        ensures targets { (b : ℕ) → target_at advanced (table_of self.new) b ≡ overlaid advanced e (target_at advanced (table_of self.old)) b }
-        ensures table { is_table advanced same (table_of self.new) ≡ true }
-        ensures sound { sound advanced same fits self.new ≡ true }
+        ensures targets { (b : ℕ) → target_at T.advanced (table_of self.new) b ≡ overlaid T.advanced e (target_at T.advanced (table_of self.old)) b }
+        ensures table { is_table T.advanced T.same (table_of self.new) ≡ true }
+        ensures sound { sound T.advanced T.same T.fits self.new ≡ true }
     {
         let count = self.entries.len();
         self.entries.push_reserved(e);
@@ -110,9 +110,9 @@ impl<T: Target> Rows<T> {
     }
 
     fn append(&mut self, e: Extent<T>) -> Result<(), MapFault>
-        requires { sound advanced same fits self.old ≡ true }
-        ensures appended { Appended advanced same fits e self.old result self.new }
-        ensures sound { sound advanced same fits self.new ≡ true }
+        requires { sound T.advanced T.same T.fits self.old ≡ true }
+        ensures appended { Appended T.advanced T.same T.fits e self.old result self.new }
+        ensures sound { sound T.advanced T.same T.fits self.new ≡ true }
     {
         if let Err(f) = admit(self.blocks, e) {
             return Err(f);
@@ -128,7 +128,7 @@ impl<T: Target> Rows<T> {
 impl<T: Ordered> Rows<T> {
     fn drop_below(&mut self, limit: T)
         requires { sound T.Target.advanced T.Target.same T.Target.fits self.old ≡ true }
-        ensures dropped { Dropped T.Target.advanced T.Target.same below limit self.old self.new }
+        ensures dropped { Dropped T.Target.advanced T.Target.same T.below limit self.old self.new }
         ensures sound { sound T.Target.advanced T.Target.same T.Target.fits self.new ≡ true }
     {
         let new_count = super::drop_below(self.entries.as_mut_slice(), limit);

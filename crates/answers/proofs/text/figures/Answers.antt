@@ -9,8 +9,8 @@ loop-rest-init c =
     let long : length c.args.row.now ≡ 20 = search rules in
     (none_yet c.args.n c.args.row.now long, length-decimal-le 20 c.args.n (omega arith) (omega arith) (omega arith), omega arith, long, omega arith)
 
-pub overflow-sub-at : goal.overflow-sub-at
-overflow-sub-at c = omega (arith, decimal_nonempty c.loop-rest.rest c.loop-rest.invariant.4)
+pub overflow_sub-at : goal.overflow_sub-at
+overflow_sub-at c = omega (arith, decimal_nonempty c.loop-rest.rest c.loop-rest.invariant.4)
 
 pub loop-rest-preserved : goal.loop-rest-preserved
 loop-rest-preserved c =
@@ -23,8 +23,8 @@ loop-rest-preserved c =
     let fewer = digit_fewer rest ten inv.4 in
     (digit_more rest (at - 1) at row (decimal c.args.n) (omega arith) ten inv.4 (omega arith) inv.0, omega arith, omega arith, length-set row (at - 1) (48 + rest % 10) ∙ inv.3, omega arith)
 
-pub overflow-sub-at-2 : goal.overflow-sub-at-2
-overflow-sub-at-2 c = omega (arith, decimal_nonempty c.loop-rest.rest c.loop-rest.invariant.4)
+pub overflow_sub-at-2 : goal.overflow_sub-at-2
+overflow_sub-at-2 c = omega (arith, decimal_nonempty c.loop-rest.rest c.loop-rest.invariant.4)
 
 pub returns : goal.returns
 returns c =

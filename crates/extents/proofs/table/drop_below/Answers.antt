@@ -4,11 +4,11 @@ use Rattle.extents.specs.Steps.{sieved}
 use Rattle.extents.proofs.Tables.{fits_before}
 use Rattle.extents.proofs.Sieving.{read_range, turn_none, turn_some}
 use Rattle.extents.proofs.table.drop_below.Goals as goal
-use Rattle.extents.proofs.table.drop_below.Goals.{in-Some, in-default}
+use Rattle.extents.proofs.table.drop_below.Goals.{in-Some, in_default}
 
 pub keep-requires : goal.keep-requires
 keep-requires g c =
-    let m = g.T-as-Target in
+    let m = g.T.Target in
     let e = c.index-s-i.result in
     let r = read_range m.advanced (λ t. g.T.Ordered.short t c.args.limit) c.loop-i.s c.args.s.now c.loop-i.i c.loop-i.to e c.loop-i.auto.s c.loop-i-test.true c.loop-i.invariant.1 c.index-s-i.is m.fits (2 ^ 32 - 1) c.requires in
     record {
@@ -18,7 +18,7 @@ keep-requires g c =
 
 pub loop-i-preserved : goal.loop-i-preserved
 loop-i-preserved g c =
-    let m = g.T-as-Target in
+    let m = g.T.Target in
     let short : g.row.T.Denot → ℕ = λ t. g.T.Ordered.short t c.args.limit in
     let s = c.loop-i.s in
     let s₀ = c.args.s.now in
@@ -32,8 +32,8 @@ loop-i-preserved g c =
             ap (drop (i + 1)) w.s-is ∙ t.0,
             ap (λ n. take n c.match-keep.s ++ rest) w.to-is ∙ ap (λ l. take (to + 1) l ++ rest) w.s-is ∙ t.1,
           )
-      | in-default w ↦
-          let t = turn_none m.advanced short s s₀ i to c.index-s-i.result c.loop-i.auto.s c.loop-i-test.true c.loop-i.invariant.1 c.index-s-i.is c.keep.result c.keep.ensures c.loop-i.invariant.0 c.loop-i.invariant.2 w.in-default.is in (
+      | in_default w ↦
+          let t = turn_none m.advanced short s s₀ i to c.index-s-i.result c.loop-i.auto.s c.loop-i-test.true c.loop-i.invariant.1 c.index-s-i.is c.keep.result c.keep.ensures c.loop-i.invariant.0 c.loop-i.invariant.2 w.in_default.is in (
             omega (arith, w.to-is, c.loop-i.invariant.0),
             ap (drop (i + 1)) w.s-is ∙ t.0,
             ap (λ n. take n c.match-keep.s ++ rest) w.to-is ∙ ap (λ l. take to l ++ rest) w.s-is ∙ t.1,
@@ -42,7 +42,7 @@ loop-i-preserved g c =
 
 pub returns : goal.returns
 returns g c =
-    let m = g.T-as-Target in
+    let m = g.T.Target in
     let short : g.row.T.Denot → ℕ = λ t. g.T.Ordered.short t c.args.limit in
     sym (append-nil _)
     ∙ ap (λ zs. take c.loop-i.to c.loop-i.s ++ sieved m.advanced short zs) (sym (drop_all c.loop-i.i c.args.s.now c.loop-i-test.false))

@@ -4,21 +4,21 @@ use Rattle.extents.proofs.Assembly.{right_short, upto_within, middle_short, left
 use Rattle.extents.proofs.table.insert.Goals as goal
 
 pub join_right-requires : goal.join_right-requires
-join_right-requires g c = right_short g.T-as-Target.laws c.args.s.now c.args.count c.args.e (omega arith) c.reached-j.result c.right_at-right.result c.reached-j.ensures c.right_at-right.ensures c.requires.range
+join_right-requires g c = right_short g.T.Target.laws c.args.s.now c.args.count c.args.e (omega arith) c.reached-j.result c.right_at-right.result c.reached-j.ensures c.right_at-right.ensures c.requires.range
 
 pub join_left-requires : goal.join_left-requires
 join_left-requires g c =
-    middle_short g.T-as-Target.laws c.args.s.now c.args.count c.args.e (omega arith) c.reached-j.result c.right_at-right.result c.reached-j.ensures c.right_at-right.ensures
+    middle_short g.T.Target.laws c.args.s.now c.args.count c.args.e (omega arith) c.reached-j.result c.right_at-right.result c.reached-j.ensures c.right_at-right.ensures
     c.join_right.result.0 c.join_right.result.1 c.join_right.ensures c.requires.table c.requires.range c.requires.some c.requires.fits
 
-pub overflow-add-j : goal.overflow-add-j
-overflow-add-j g c =
-    let u = upto_within g.T-as-Target.laws c.args.s.now c.args.count c.args.e (omega arith) c.reached-j.result c.right_at-right.result c.reached-j.ensures c.right_at-right.ensures in
+pub overflow_add-j : goal.overflow_add-j
+overflow_add-j g c =
+    let u = upto_within g.T.Target.laws c.args.s.now c.args.count c.args.e (omega arith) c.reached-j.result c.right_at-right.result c.reached-j.ensures c.right_at-right.ensures in
     omega (arith, c.held.ensures)
 
 pub put-requires : goal.put-requires
 put-requires g c =
-    let laws = g.T-as-Target.laws in
+    let laws = g.T.Target.laws in
     let s = c.args.s.now in
     let n = c.args.count in
     let e = c.args.e in
@@ -35,7 +35,7 @@ put-requires g c =
 
 pub returns : goal.returns
 returns g c =
-    let laws = g.T-as-Target.laws in
+    let laws = g.T.Target.laws in
     let s = c.args.s.now in
     let n = c.args.count in
     let e = c.args.e in

@@ -12,7 +12,7 @@ pub loop-low-preserved-then-ends_before : goal.loop-low-preserved-then-ends_befo
 loop-low-preserved-then-ends_before g c =
     let m : c.loop-low.low + (c.loop-low.high - c.loop-low.low) / 2 < length c.args.s.now = omega arith in
     let e = c.index-s-middle.result in
-    let q = reach_high g.T-as-Target.advanced c.args.x c.args.s.now _ e (table g.T-as-Target.laws c.args.s.now c.requires) m c.index-s-middle.is (ltb-true (end e) c.args.x (sym c.ends_before.ensures ∙ c.if-ends_before.true)) in
+    let q = reach_high g.T.Target.advanced c.args.x c.args.s.now _ e (table g.T.Target.laws c.args.s.now c.requires) m c.index-s-middle.is (ltb-true (end e) c.args.x (sym c.ends_before.ensures ∙ c.if-ends_before.true)) in
     (omega arith, omega arith, omega arith)
 
 pub loop-low-preserved : goal.loop-low-preserved

@@ -5,11 +5,11 @@ use Rattle.maptrace.specs.Words.{then, read_on}
 use Rattle.maptrace.proofs.Reading.{read_all, number_read}
 use Rattle.maptrace.proofs.words.number.Goals as goal
 
-pub returns-in-default : goal.returns-in-default
-returns-in-default c =
+pub returns-in_default : goal.returns-in_default
+returns-in_default c =
     let w = c.args.w.now in
     let i = c.loop-b.b-index in
-    sym (ap (λ o. then o (λ m. read_on m (drop (i + 1) w))) c.in-default.is)
+    sym (ap (λ o. then o (λ m. read_on m (drop (i + 1) w))) c.in_default.is)
     ∙ read_all w i c.loop-b.n c.with_digit.result c.loop-b-test.true c.with_digit.ensures c.loop-b.invariant
     ∙ number_read w (eqb-false _ _ (sym c.if-is_empty.ensures))
 

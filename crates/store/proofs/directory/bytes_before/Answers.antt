@@ -2,8 +2,8 @@ use Rattle.std.proofs.Common.{◌+◌, arith}
 use Rattle.store.proofs.Scans.{total_more, total_part}
 use Rattle.store.proofs.directory.bytes_before.Goals as goal
 
-pub overflow-add-sum : goal.overflow-add-sum
-overflow-add-sum c =
+pub overflow_add-sum : goal.overflow_add-sum
+overflow_add-sum c =
     let e = total_more (λ n. n) c.args.entries.now c.loop-i.i c.loop-i.sum (omega arith) c.loop-i.invariant in
     let l = total_part (λ n. n) c.args.entries.now (c.loop-i.i + 1) in
     omega arith

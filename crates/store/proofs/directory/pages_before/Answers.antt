@@ -3,8 +3,8 @@ use Rattle.store.specs.PagedSound.{pages}
 use Rattle.store.proofs.Scans.{total_more, total_part}
 use Rattle.store.proofs.directory.pages_before.Goals as goal
 
-pub overflow-add-sum : goal.overflow-add-sum
-overflow-add-sum c =
+pub overflow_add-sum : goal.overflow_add-sum
+overflow_add-sum c =
     let e = total_more pages c.args.entries.now c.loop-i.i c.loop-i.sum (omega arith) c.loop-i.invariant in
     let l = total_part pages c.args.entries.now (c.loop-i.i + 1) in
     let p = c.page_count-sum.ensures in

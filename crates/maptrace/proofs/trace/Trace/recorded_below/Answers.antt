@@ -7,8 +7,8 @@ use Rattle.maptrace.proofs.Counting.{mapped_few, mapped_more, mapped_same}
 use Rattle.maptrace.proofs.trace.Trace.recorded_below.Goals as goal
 use Rattle.maptrace.proofs.trace.Trace.recorded_below.Goals.{then-is_some, else-is_some}
 
-pub overflow-add-n : goal.overflow-add-n
-overflow-add-n c = let l = mapped_few (target_at record_advanced (table_of c.args.self.now.records.rows)) c.loop-b.n c.loop-b.b c.loop-b.invariant in omega arith
+pub overflow_add-n : goal.overflow_add-n
+overflow_add-n c = let l = mapped_few (target_at record_advanced (table_of c.args.self.now.records.rows)) c.loop-b.n c.loop-b.b c.loop-b.invariant in omega arith
 
 pub loop-b-preserved : goal.loop-b-preserved
 loop-b-preserved c =

@@ -11,17 +11,17 @@ use Rattle.extents.proofs.table.rows.Rows.append.Goals as goal
 
 pub push_reserved-requires : goal.push_reserved-requires
 push_reserved-requires g c =
-    let m = g.T-as-Target in
+    let m = g.T.Target in
     let v = c.args.self.now in
     omega (arith, sound_short m.advanced m.same m.fits v c.requires m.laws, sound_room m.advanced m.same m.fits v c.requires, v.entries.ok.0)
 
 pub returns : goal.returns
 returns g c =
-    let m = g.T-as-Target in
+    let m = g.T.Target in
     let v = c.args.self.now in
     let e = c.args.e in
     let xs = table_of v in
-    let taken : extent_refusal m.advanced m.fits v.blocks e ≡ None = c.in-default.ensures in
+    let taken : extent_refusal m.advanced m.fits v.blocks e ≡ None = c.in_default.ensures in
     let grown : is_table m.advanced m.same (xs ++ e ∷ []) ≡ true = ap (λ l. is_table m.advanced m.same (l ++ e ∷ [])) (sym c.as_slice.ensures.value) ∙ sym c.extends.ensures ∙ c.if-not-extends.false in
     let new : vec_items c.push_reserved.new.self ≡ xs ++ e ∷ [] = c.push_reserved.ensures.items in
     let w : Rows g.row.T.Denot = record { entries = c.push_reserved.new.self; blocks = v.blocks } in

@@ -10,12 +10,12 @@ use Rattle.extents.proofs.table.rows.Rows.drop_below.Goals as goal
 
 pub drop_below-new_count-requires : goal.drop_below-new_count-requires
 drop_below-new_count-requires g c =
-    let m = g.T-as-Target in
+    let m = g.T.Target in
     ap (all_in_range m.advanced m.fits (2 ^ 32 - 1)) c.as_mut_slice.ensures.value ∙ sound_widest m.advanced m.same m.fits c.args.self.now c.requires
 
 pub returns : goal.returns
 returns g c =
-    let m = g.T-as-Target in
+    let m = g.T.Target in
     let v = c.args.self.now in
     let u = c.args.limit in
     let xs = table_of v in

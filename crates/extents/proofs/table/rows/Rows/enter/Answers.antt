@@ -10,19 +10,19 @@ use Rattle.extents.proofs.table.rows.Rows.enter.Goals as goal
 
 pub push_reserved-requires : goal.push_reserved-requires
 push_reserved-requires g c =
-    let m = g.T-as-Target in
+    let m = g.T.Target in
     let v = c.args.self.now in
     omega (arith, sound_short m.advanced m.same m.fits v c.requires.sound m.laws, sound_room m.advanced m.same m.fits v c.requires.sound, v.entries.ok.0)
 
 pub push_reserved-requires-2 : goal.push_reserved-requires-2
 push_reserved-requires-2 g c =
-    let m = g.T-as-Target in
+    let m = g.T.Target in
     let v = c.args.self.now in
     omega (arith, sound_short m.advanced m.same m.fits v c.requires.sound m.laws, sound_room m.advanced m.same m.fits v c.requires.sound, v.entries.ok.0, c.push_reserved.ensures.len, c.push_reserved.ensures.capacity)
 
 pub insert-new_count-requires : goal.insert-new_count-requires
 insert-new_count-requires g c =
-    let m = g.T-as-Target in
+    let m = g.T.Target in
     let v = c.args.self.now in
     let front = room_front (table_of v) (vec_items c.push_reserved.new.self) (vec_items c.push_reserved-2.new.self) c.as_mut_slice.result.now c.args.e c.len-count.result c.as_mut_slice.ensures.value c.push_reserved-2.ensures.items c.push_reserved.ensures.items (c.len-count.ensures ∙ v.entries.ok.0) in
     record {
@@ -35,7 +35,7 @@ insert-new_count-requires g c =
 
 pub returns : goal.returns
 returns g c =
-    let m = g.T-as-Target in
+    let m = g.T.Target in
     let v = c.args.self.now in
     let e = c.args.e in
     let ws = c.insert-new_count.new.s in

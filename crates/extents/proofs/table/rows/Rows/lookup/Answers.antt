@@ -5,7 +5,7 @@ use Rattle.extents.proofs.table.rows.Rows.lookup.Goals as goal
 
 pub lookup-requires : goal.lookup-requires
 lookup-requires g c =
-    let m = g.T-as-Target in
+    let m = g.T.Target in
     let v = c.args.self.now in
     record {
       table = ap (is_table m.advanced m.same) c.as_slice.ensures.value ∙ sound_table m.advanced m.same m.fits v c.requires;

@@ -8,8 +8,8 @@ use Rattle.objects.proofs.fields.reading.applying.lay.Goals as goal
 pub loop-i-init : goal.loop-i-init
 loop-i-init c = lay_none c.args.number c.args.entries (listed (entry_at c.args.bytes.now) 8 c.args.entries 24) c.args.map.now.rows c.requires.fit
 
-pub overflow-add-before : goal.overflow-add-before
-overflow-add-before c =
+pub overflow_add-before : goal.overflow_add-before
+overflow_add-before c =
     let bs = c.args.bytes.now in
     let i = c.loop-i.i in
     let e = c.read_entry-entry.result in

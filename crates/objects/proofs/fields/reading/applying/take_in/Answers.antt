@@ -19,10 +19,10 @@ set_table-requires c =
     let f = set_facts c.args.header c.args.map.now.rows.blocks c.args.bytes.now c.requires.read one two c.requires.good in
     record { few = f.few; room = f.room; tabled = f.tabled; ranged = f.ranged }
 
-pub returns-in-default-checked_add : goal.returns-in-default-checked_add
-returns-in-default-checked_add c =
+pub returns-in_default-checked_add : goal.returns-in_default-checked_add
+returns-in_default-checked_add c =
     let high : c.args.header.number < 2 ^ 32 = search rules in
-    (data_past c.args.header c.args.records c.args.bytes.now c.args.map.now.rows (λ i. (c.type_inv.bytes i).fits) high c.requires.read c.in-1.is c.requires.good c.in-default-checked_add.ensures, refl)
+    (data_past c.args.header c.args.records c.args.bytes.now c.args.map.now.rows (λ i. (c.type_inv.bytes i).fits) high c.requires.read c.in-1.is c.requires.good c.in_default-checked_add.ensures, refl)
 
 pub returns-in-Some : goal.returns-in-Some
 returns-in-Some c =
@@ -34,8 +34,8 @@ returns-in-2 c =
     let high : c.args.header.number < 2 ^ 32 = search rules in
     clean_taken c.args.header c.args.records c.args.bytes.now c.args.map.now.rows c.lay-in-2.new.map.rows (λ i. (c.type_inv.bytes i).fits) high c.requires.read c.in-2.is c.requires.good c.lay-in-2.ensures.blocks c.lay-in-2.ensures.places
 
-pub returns-in-default : goal.returns-in-default
-returns-in-default c =
+pub returns-in_default : goal.returns-in_default
+returns-in_default c =
     let high : c.args.header.number < 2 ^ 32 = search rules in
     let one : (c.args.header.kind ≡ 1 → ⊥) = search rules in
     let two : (c.args.header.kind ≡ 2 → ⊥) = search rules in

@@ -4,8 +4,8 @@ use Rattle.store.proofs.Changes.{some_waits, listed_risen, lands_at}
 use Rattle.store.proofs.PackedMoves.{packed_roomy, packed_sums_risen, packed_area_same}
 use Rattle.store.proofs.directory.packed.PackedStore.land.Goals as goal
 
-pub overflow-sub-self : goal.overflow-sub-self
-overflow-sub-self c = let s = c.args.self.now in some_waits (vec_items s.entries) c.args.i s.waiting (omega (arith, s.entries.ok.0)) c.requires.pending s.listed
+pub overflow_sub-self : goal.overflow_sub-self
+overflow_sub-self c = let s = c.args.self.now in some_waits (vec_items s.entries) c.args.i s.waiting (omega (arith, s.entries.ok.0)) c.requires.pending s.listed
 
 pub invariant_of-self : goal.invariant_of-self
 invariant_of-self c =

@@ -14,8 +14,8 @@ returns-in-Err c =
     part_refused packed_room packed_roomy packed_weight (vec_len s.area) (vec_items s.entries) (vec_items s.area) c.args.number c.args.from c.args.count c.in-Err.fault
     (subst (λ z. PartFound z c.args.number c.args.from c.args.count (Err c.in-Err.fault)) c.deref.ensures.value c.in-Err.ensures) s.listed.0 (omega (arith, s.sums.0, s.sums.1, s.area.ok.0))
 
-pub overflow-add-result : goal.overflow-add-result
-overflow-add-result c =
+pub overflow_add-result : goal.overflow_add-result
+overflow_add-result c =
     let s = c.args.self.now in
     let f = subst (λ z. PartFound z c.args.number c.args.from c.args.count (Ok c.in-Ok.i)) c.deref.ensures.value c.in-Ok.ensures in
     let l = lies_within packed_room packed_roomy packed_weight (vec_len s.area) (vec_items s.entries) c.in-Ok.i (vec_items s.area) f.0.0 (omega (arith, s.sums.0, s.sums.1, s.area.ok.0)) in

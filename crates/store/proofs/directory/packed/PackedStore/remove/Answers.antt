@@ -6,8 +6,8 @@ use Rattle.store.proofs.PackedMoves.{packed_lies, packed_sums_removed, packed_su
 use Rattle.store.proofs.Admission.{waits_here}
 use Rattle.store.proofs.directory.packed.PackedStore.remove.Goals as goal
 
-pub overflow-add-end : goal.overflow-add-end
-overflow-add-end c =
+pub overflow_add-end : goal.overflow_add-end
+overflow_add-end c =
     let s = c.args.self.now in
     let l = packed_lies (vec_items s.entries) c.args.i s.used c.bytes_before-start.result (vec_len s.area) (omega (arith, s.entries.ok.0)) s.sums (c.bytes_before-start.ensures ∙ ap (λ z. total packed_room (take c.args.i z)) c.deref.ensures.value) in
     let e = ap (λ z. z.length) c.take_out-e.ensures.gone in
@@ -19,17 +19,17 @@ copy_within-requires c =
     let s = c.args.self.now in
     let l = packed_lies (vec_items s.entries) c.args.i s.used c.bytes_before-start.result (vec_len s.area) (omega (arith, s.entries.ok.0)) s.sums (c.bytes_before-start.ensures ∙ ap (λ z. total packed_room (take c.args.i z)) c.deref.ensures.value) in
     let e = ap (λ z. z.length) c.take_out-e.ensures.gone in
-    record { start-le-end = omega (arith, l.back, l.within); in_bounds = l.within; dest-in-bounds = omega (arith, l.back, l.within); not-exhausted = tt }
+    record { start_le_end = omega (arith, l.back, l.within); in_bounds = l.within; dest-in_bounds = omega (arith, l.back, l.within); not-exhausted = tt }
 
-pub overflow-sub-self : goal.overflow-sub-self
-overflow-sub-self c =
+pub overflow_sub-self : goal.overflow_sub-self
+overflow_sub-self c =
     let s = c.args.self.now in
     let l = packed_lies (vec_items s.entries) c.args.i s.used c.bytes_before-start.result (vec_len s.area) (omega (arith, s.entries.ok.0)) s.sums (c.bytes_before-start.ensures ∙ ap (λ z. total packed_room (take c.args.i z)) c.deref.ensures.value) in
     let e = ap (λ z. z.length) c.take_out-e.ensures.gone in
     omega (arith, l.back, l.within)
 
-pub overflow-sub-self-2 : goal.overflow-sub-self-2
-overflow-sub-self-2 c = let s = c.args.self.now in waits_here (vec_items s.entries) c.args.i s.waiting _ _ (omega (arith, s.entries.ok.0)) c.take_out-e.ensures.gone s.listed c.pending_count.ensures
+pub overflow_sub-self-2 : goal.overflow_sub-self-2
+overflow_sub-self-2 c = let s = c.args.self.now in waits_here (vec_items s.entries) c.args.i s.waiting _ _ (omega (arith, s.entries.ok.0)) c.take_out-e.ensures.gone s.listed c.pending_count.ensures
 
 pub invariant_of-self : goal.invariant_of-self
 invariant_of-self c =

@@ -25,6 +25,6 @@ loop-i-preserved c =
 pub returns : goal.returns
 returns c =
     let s = c.loop-i.self in
-    let p = none_pending packed_room packed_roomy packed_weight (vec_len s.area) (vec_items s.entries) (vec_items s.area) (subst (λ z. Oldest z None) c.deref.ensures.value c.in-default.ensures) in
+    let p = none_pending packed_room packed_roomy packed_weight (vec_len s.area) (vec_items s.entries) (vec_items s.area) (subst (λ z. Oldest z None) c.deref.ensures.value c.in_default.ensures) in
     let b = c.loop-i.invariant (packed s) (cut_none (packed s) c.loop-i.bits (ap length p)) in
     record { any = cut_to c.args.survivors (packed c.args.self.now) (packed s) b; bits = b }

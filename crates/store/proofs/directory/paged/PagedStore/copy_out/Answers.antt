@@ -18,8 +18,8 @@ returns-in-Err c =
       refl,
     )
 
-pub overflow-mul-at : goal.overflow-mul-at
-overflow-mul-at c =
+pub overflow_mul-at : goal.overflow_mul-at
+overflow_mul-at c =
     let s = c.args.self.now in
     let f = subst (λ z. PartFound z c.args.number c.args.from (length c.args.out.now) (Ok c.in-Ok.i)) c.deref.ensures.value c.in-Ok.ensures in
     let l = lies_within paged_room paged_roomy pages (vec_len s.order) (vec_items s.entries) c.in-Ok.i (bytes s) f.0.0 (sizes s).inside in
@@ -27,8 +27,8 @@ overflow-mul-at c =
     let r = room_total (take c.in-Ok.i (vec_items s.entries)) in
     omega (arith, l, t, r, (sizes s).laid, s.bounds.2)
 
-pub overflow-add-at : goal.overflow-add-at
-overflow-add-at c =
+pub overflow_add-at : goal.overflow_add-at
+overflow_add-at c =
     let s = c.args.self.now in
     let f = subst (λ z. PartFound z c.args.number c.args.from (length c.args.out.now) (Ok c.in-Ok.i)) c.deref.ensures.value c.in-Ok.ensures in
     let l = lies_within paged_room paged_roomy pages (vec_len s.order) (vec_items s.entries) c.in-Ok.i (bytes s) f.0.0 (sizes s).inside in

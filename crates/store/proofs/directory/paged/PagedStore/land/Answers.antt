@@ -10,8 +10,8 @@ use Rattle.store.proofs.PageSteps.{moved_once}
 use Rattle.store.proofs.PagedMoves.{paged_roomy, bytes, sizes, paged_refusal, paged_puttable, paged_sums_push, paged_area_same, paged_put, paged_sums_risen, paged_stands, paged_sums_removed, paged_area_moved, paged_taken_out, newest_last}
 use Rattle.store.proofs.directory.paged.PagedStore.land.Goals as goal
 
-pub overflow-sub-self : goal.overflow-sub-self
-overflow-sub-self c = let s = c.args.self.now in some_waits (vec_items s.entries) c.args.i s.waiting (omega (arith, s.entries.ok.0)) c.requires.pending s.listed
+pub overflow_sub-self : goal.overflow_sub-self
+overflow_sub-self c = let s = c.args.self.now in some_waits (vec_items s.entries) c.args.i s.waiting (omega (arith, s.entries.ok.0)) c.requires.pending s.listed
 
 pub invariant_of-self : goal.invariant_of-self
 invariant_of-self c =

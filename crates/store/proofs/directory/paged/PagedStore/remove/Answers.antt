@@ -13,11 +13,11 @@ use Rattle.store.proofs.directory.paged.PagedStore.remove.Goals as goal
 pub retire-requires : goal.retire-requires
 retire-requires c = let s = c.args.self.now in (paged_stands s c.args.i c.pages_before-first.result c.page_count-count.result c.take_out-e.result c.requires (c.pages_before-first.ensures ∙ ap (λ z. total pages (take c.args.i z)) c.deref.ensures.value) c.take_out-e.ensures.gone c.page_count-count.ensures).within
 
-pub overflow-sub-self : goal.overflow-sub-self
-overflow-sub-self c = let s = c.args.self.now in let b = (paged_stands s c.args.i c.pages_before-first.result c.page_count-count.result c.take_out-e.result c.requires (c.pages_before-first.ensures ∙ ap (λ z. total pages (take c.args.i z)) c.deref.ensures.value) c.take_out-e.ensures.gone c.page_count-count.ensures).back in omega (arith, b)
+pub overflow_sub-self : goal.overflow_sub-self
+overflow_sub-self c = let s = c.args.self.now in let b = (paged_stands s c.args.i c.pages_before-first.result c.page_count-count.result c.take_out-e.result c.requires (c.pages_before-first.ensures ∙ ap (λ z. total pages (take c.args.i z)) c.deref.ensures.value) c.take_out-e.ensures.gone c.page_count-count.ensures).back in omega (arith, b)
 
-pub overflow-sub-self-2 : goal.overflow-sub-self-2
-overflow-sub-self-2 c = let s = c.args.self.now in waits_here (vec_items s.entries) c.args.i s.waiting _ _ (omega (arith, s.entries.ok.0)) c.take_out-e.ensures.gone s.listed c.pending_count.ensures
+pub overflow_sub-self-2 : goal.overflow_sub-self-2
+overflow_sub-self-2 c = let s = c.args.self.now in waits_here (vec_items s.entries) c.args.i s.waiting _ _ (omega (arith, s.entries.ok.0)) c.take_out-e.ensures.gone s.listed c.pending_count.ensures
 
 pub invariant_of-self : goal.invariant_of-self
 invariant_of-self c =

@@ -25,6 +25,6 @@ loop-i-preserved c =
 pub returns : goal.returns
 returns c =
     let s = c.loop-i.self in
-    let p = none_pending paged_room paged_roomy pages (vec_len s.order) (vec_items s.entries) (bytes s) (subst (λ z. Oldest z None) c.deref.ensures.value c.in-default.ensures) in
+    let p = none_pending paged_room paged_roomy pages (vec_len s.order) (vec_items s.entries) (bytes s) (subst (λ z. Oldest z None) c.deref.ensures.value c.in_default.ensures) in
     let b = c.loop-i.invariant (paged s) (cut_none (paged s) c.loop-i.bits (ap length p)) in
     record { any = cut_to c.args.survivors (paged c.args.self.now) (paged s) b; bits = b }
