@@ -16,8 +16,11 @@ rejoined k m to from front rest l h f r =
     cc
 
 -- what an area of slots keeps, as its type has it
-abbrev pub Kept : List Slot → Type 0
-Kept xs = (0 < length xs) × ((length xs < 2 ^ 32) × (Full xs × (Bytes xs × Unit {0})))
+pub record Kept (xs : List Slot) : Type 0 where
+  pub some : 0 < length xs
+  pub few : length xs < 2 ^ 32
+  pub full : Full xs
+  pub bytes : Bytes xs
 
 -- the same slots keep the same
 pub kept_same : (xs ys : List Slot) → xs ≡ ys → Kept ys → Kept xs
@@ -51,7 +54,7 @@ zeros_bytes (suc n) (suc k) i = zeros_bytes n k i
 pub kept_zeros : (xs : List Slot) (n : ℕ) → xs ≡ replicate n zero_slot → 0 < n → n < 2 ^ 32 → Kept xs
 kept_zeros xs n e some few =
     let l = length-replicate n zero_slot in
-    kept_same xs (replicate n zero_slot) e (omega arith, (omega arith, (zeros_full n, (zeros_bytes n, tt))))
+    kept_same xs (replicate n zero_slot) e (record { some = omega arith; few = omega arith; full = zeros_full n; bytes = zeros_bytes n })
 
 -- one slot more is cleared
 pub clear_more : (xs : List Slot) (i : ℕ) → i < length xs → take i xs ≡ replicate i zero_slot → take (i + 1) (set xs i zero_slot) ≡ replicate (i + 1) zero_slot
@@ -88,6 +91,4 @@ mixed_bytes f (x ∷ xs) (y ∷ ys) p q (suc k) i = mixed_bytes (λ n. f (suc n)
 pub kept_mixed : (f : ℕ → Bool) (zs xs ys : List Slot) → zs ≡ mixed f xs ys → length ys ≡ length xs → Kept xs → Kept ys → Kept zs
 kept_mixed f zs xs ys e even p q =
     let l = length_mixed f xs ys even in
-    let a = p.0 in
-    let b = p.1.0 in
-    kept_same zs (mixed f xs ys) e (omega arith, (omega arith, (mixed_full f xs ys p.1.1.0 q.1.1.0, (mixed_bytes f xs ys p.1.1.1.0 q.1.1.1.0, tt))))
+    kept_same zs (mixed f xs ys) e (record { some = omega (arith, p.some); few = omega (arith, p.few); full = mixed_full f xs ys p.full q.full; bytes = mixed_bytes f xs ys p.bytes q.bytes })

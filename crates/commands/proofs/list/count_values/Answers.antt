@@ -13,8 +13,8 @@ loop-b-preserved c =
     let i = c.loop-b.b-index in
     let lt : i < length s = omega arith in
     elim c.if-b-eq32.branch [
-      | then-b-eq32 w ↦ (omega (arith, w.count_is), omega (arith, cells_space s i c.loop-b.begun lt w.if-b-eq32.true, w.count_is, ap (λ b. cells b (drop (i + 1) s)) w.begun-is))
-      | else-b-eq32 w ↦ (omega (arith, w.count_is), omega (arith, cells_more s i c.loop-b.begun lt w.if-b-eq32.false, w.count_is, ap (λ b. cells b (drop (i + 1) s)) w.begun-is))
+      | then-b-eq32 w ↦ (omega (arith, w.count-is), omega (arith, cells_space s i c.loop-b.begun lt w.if-b-eq32.true, w.count-is, ap (λ b. cells b (drop (i + 1) s)) w.begun-is))
+      | else-b-eq32 w ↦ (omega (arith, w.count-is), omega (arith, cells_more s i c.loop-b.begun lt w.if-b-eq32.false, w.count-is, ap (λ b. cells b (drop (i + 1) s)) w.begun-is))
     ]
 
 pub returns-then-begun : goal.returns-then-begun

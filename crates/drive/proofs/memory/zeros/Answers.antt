@@ -3,4 +3,6 @@ use Rattle.drive.proofs.Areas.{kept_zeros}
 use Rattle.drive.proofs.memory.zeros.Goals as goal
 
 pub invariant_of-result : goal.invariant_of-result
-invariant_of-result c = kept_zeros _ _ c.in-Ok.ensures (omega arith) (omega arith)
+invariant_of-result c =
+    let k = kept_zeros (vec_items c.in-Ok.slots) _ c.in-Ok.ensures (omega arith) (omega arith) in
+    record { some = k.some; few = k.few; full = k.full; bytes = k.bytes }

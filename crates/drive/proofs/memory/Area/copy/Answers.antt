@@ -10,6 +10,7 @@ returns c =
 pub invariant_of-self : goal.invariant_of-self
 invariant_of-self c =
     let from = c.args.from.now in
-    kept_same _ (vec_items from.slots)
+    let k = kept_same _ (vec_items from.slots)
     (with_items_is c.args.self.now.slots c.copy_from_slice.new.self (omega arith) ∙ c.copy_from_slice.ensures.after ∙ c.as_slice.ensures.value)
-    (from.some, (from.few, (from.full, (from.bytes, tt))))
+    (record { some = from.some; few = from.few; full = from.full; bytes = from.bytes }) in
+    record { some = k.some; few = k.few; full = k.full; bytes = k.bytes }

@@ -16,8 +16,9 @@ pub invariant_of-self : goal.invariant_of-self
 invariant_of-self c =
     let self = c.args.self.now in
     let from = c.args.from.now in
-    kept_mixed (bit c.args.kept) _ (vec_items from.slots) (vec_items self.slots)
+    let k = kept_mixed (bit c.args.kept) _ (vec_items from.slots) (vec_items self.slots)
     (with_items_is self.slots c.take_over.new.to (omega arith) ∙ simp (c.take_over.ensures, c.as_mut_slice.ensures.value, c.as_slice.ensures.value))
     c.requires
-    (from.some, (from.few, (from.full, (from.bytes, tt))))
-    (self.some, (self.few, (self.full, (self.bytes, tt))))
+    (record { some = from.some; few = from.few; full = from.full; bytes = from.bytes })
+    (record { some = self.some; few = self.few; full = self.full; bytes = self.bytes }) in
+    record { some = k.some; few = k.few; full = k.full; bytes = k.bytes }

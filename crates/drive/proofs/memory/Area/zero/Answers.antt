@@ -10,4 +10,5 @@ returns c =
 pub invariant_of-self : goal.invariant_of-self
 invariant_of-self c =
     let a = c.args.self.now in
-    kept_zeros _ _ (with_items_is a.slots c.clear.new.slots (omega arith) ∙ simp (c.clear.ensures, c.as_mut_slice.ensures.value)) a.some a.few
+    let k = kept_zeros _ _ (with_items_is a.slots c.clear.new.slots (omega arith) ∙ simp (c.clear.ensures, c.as_mut_slice.ensures.value)) a.some a.few in
+    record { some = k.some; few = k.few; full = k.full; bytes = k.bytes }

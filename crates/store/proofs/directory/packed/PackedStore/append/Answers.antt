@@ -12,13 +12,11 @@ push_reserved-requires c = let s = c.args.self.now in let p = (puttable s c.args
 pub invariant_of-self : goal.invariant_of-self
 invariant_of-self c =
     let s = c.args.self.now in
-    let p = puttable s c.args.number c.args.bytes.now c.requires in (
-      listed_push _ _ _ _ _ c.push_reserved.ensures.items refl s.listed p.admits,
-      (
-        packed_sums_same _ _ _ _ c.write_at.ensures.len (packed_sums_push _ _ _ _ _ _ c.push_reserved.ensures.items refl s.sums p.within),
-        (packed_area_same _ _ _ _ c.push_reserved.ensures.capacity c.write_at.ensures.len s.bounds, tt),
-      ),
-    )
+    let p = puttable s c.args.number c.args.bytes.now c.requires in record {
+      listed = listed_push _ _ _ _ _ c.push_reserved.ensures.items refl s.listed p.admits;
+      sums = packed_sums_same _ _ _ _ c.write_at.ensures.len (packed_sums_push _ _ _ _ _ _ c.push_reserved.ensures.items refl s.sums p.within);
+      bounds = packed_area_same _ _ _ _ c.push_reserved.ensures.capacity c.write_at.ensures.len s.bounds;
+    }
 
 pub returns : goal.returns
 returns c = let s = c.args.self.now in packed_put _ _ _ _ _ c.args.bytes.now s.used (vec_len s.area) _ c.push_reserved.ensures.items refl refl s.sums s.area.ok.0 c.write_at.ensures.len c.write_at.ensures.items

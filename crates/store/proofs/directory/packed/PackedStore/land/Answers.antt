@@ -10,13 +10,11 @@ overflow_sub-self c = let s = c.args.self.now in some_waits (vec_items s.entries
 pub invariant_of-self : goal.invariant_of-self
 invariant_of-self c =
     let s = c.args.self.now in
-    let h : c.args.i < length (vec_items s.entries) = omega (arith, s.entries.ok.0) in (
-      listed_risen (vec_items s.entries) _ c.args.i s.waiting h c.requires.pending c.raise.ensures.items s.listed,
-      (
-        packed_sums_risen (vec_items s.entries) _ c.args.i s.used (vec_len s.area) h c.raise.ensures.items s.sums,
-        (packed_area_same _ _ _ _ c.raise.ensures.capacity refl s.bounds, tt),
-      ),
-    )
+    let h : c.args.i < length (vec_items s.entries) = omega (arith, s.entries.ok.0) in record {
+      listed = listed_risen (vec_items s.entries) _ c.args.i s.waiting h c.requires.pending c.raise.ensures.items s.listed;
+      sums = packed_sums_risen (vec_items s.entries) _ c.args.i s.used (vec_len s.area) h c.raise.ensures.items s.sums;
+      bounds = packed_area_same _ _ _ _ c.raise.ensures.capacity refl s.bounds;
+    }
 
 pub returns : goal.returns
 returns c =

@@ -37,13 +37,11 @@ invariant_of-self c =
     let h : c.args.i < length (vec_items s.entries) = omega (arith, s.entries.ok.0) in
     let w = waits_here (vec_items s.entries) c.args.i s.waiting _ _ h c.take_out-e.ensures.gone s.listed c.pending_count.ensures in
     let z = ap (λ y. waits (y ∷ [])) c.take_out-e.ensures.gone in
-    let q = c.pending_count.ensures in (
-      listed_removed (vec_items s.entries) _ c.args.i s.waiting _ h c.take_out-e.ensures.items (omega (arith, w, z, q)) s.listed,
-      (
-        packed_sums_same _ _ _ _ c.copy_within.ensures.len (packed_sums_removed (vec_items s.entries) _ c.args.i s.used (vec_len s.area) _ h c.take_out-e.ensures.items c.take_out-e.ensures.gone s.sums),
-        (packed_area_same _ _ _ _ c.take_out-e.ensures.capacity c.copy_within.ensures.len s.bounds, tt),
-      ),
-    )
+    let q = c.pending_count.ensures in record {
+      listed = listed_removed (vec_items s.entries) _ c.args.i s.waiting _ h c.take_out-e.ensures.items (omega (arith, w, z, q)) s.listed;
+      sums = packed_sums_same _ _ _ _ c.copy_within.ensures.len (packed_sums_removed (vec_items s.entries) _ c.args.i s.used (vec_len s.area) _ h c.take_out-e.ensures.items c.take_out-e.ensures.gone s.sums);
+      bounds = packed_area_same _ _ _ _ c.take_out-e.ensures.capacity c.copy_within.ensures.len s.bounds;
+    }
 
 pub returns : goal.returns
 returns c =

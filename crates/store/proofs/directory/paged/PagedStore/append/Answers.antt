@@ -31,16 +31,12 @@ push_reserved-requires c = (paged_puttable c.args.self.now c.args.number c.args.
 pub invariant_of-self : goal.invariant_of-self
 invariant_of-self c =
     let s = c.args.self.now in
-    let p = paged_puttable s c.args.number c.args.bytes.now c.requires in (
-      listed_push _ _ _ _ _ c.push_reserved.ensures.items refl s.listed p.admits,
-      (
-        paged_sums_push _ _ _ _ _ _ _ c.push_reserved.ensures.items c.page_count.ensures refl s.sums p.within,
-        (
-          s.once,
-          (paged_area_same _ _ _ _ _ _ c.push_reserved.ensures.capacity c.write_pages.ensures.len s.bounds, tt),
-        ),
-      ),
-    )
+    let p = paged_puttable s c.args.number c.args.bytes.now c.requires in record {
+      listed = listed_push _ _ _ _ _ c.push_reserved.ensures.items refl s.listed p.admits;
+      sums = paged_sums_push _ _ _ _ _ _ _ c.push_reserved.ensures.items c.page_count.ensures refl s.sums p.within;
+      once = s.once;
+      bounds = paged_area_same _ _ _ _ _ _ c.push_reserved.ensures.capacity c.write_pages.ensures.len s.bounds;
+    }
 
 pub returns : goal.returns
 returns c =

@@ -25,16 +25,12 @@ invariant_of-self c =
     let k = paged_stands s c.args.i c.pages_before-first.result c.page_count-count.result c.take_out-e.result c.requires (c.pages_before-first.ensures ∙ ap (λ z. total pages (take c.args.i z)) c.deref.ensures.value) c.take_out-e.ensures.gone c.page_count-count.ensures in
     let w = waits_here (vec_items s.entries) c.args.i s.waiting _ _ k.inside c.take_out-e.ensures.gone s.listed c.pending_count.ensures in
     let z = ap (λ y. waits (y ∷ [])) c.take_out-e.ensures.gone in
-    let q = c.pending_count.ensures in (
-      listed_removed (vec_items s.entries) _ c.args.i s.waiting _ k.inside c.take_out-e.ensures.items (omega (arith, w, z, q)) s.listed,
-      (
-        paged_sums_removed s c.args.i c.pages_before-first.result c.page_count-count.result _ _ k c.take_out-e.ensures.items c.retire.ensures.len,
-        (
-          moved_once (vec_items s.order) _ c.pages_before-first.result c.page_count-count.result c.retire.ensures.items s.once,
-          (paged_area_moved s c.args.i c.pages_before-first.result c.page_count-count.result _ _ _ k c.retire.ensures.items c.retire.ensures.len c.take_out-e.ensures.capacity, tt),
-        ),
-      ),
-    )
+    let q = c.pending_count.ensures in record {
+      listed = listed_removed (vec_items s.entries) _ c.args.i s.waiting _ k.inside c.take_out-e.ensures.items (omega (arith, w, z, q)) s.listed;
+      sums = paged_sums_removed s c.args.i c.pages_before-first.result c.page_count-count.result _ _ k c.take_out-e.ensures.items c.retire.ensures.len;
+      once = moved_once (vec_items s.order) _ c.pages_before-first.result c.page_count-count.result c.retire.ensures.items s.once;
+      bounds = paged_area_moved s c.args.i c.pages_before-first.result c.page_count-count.result _ _ _ k c.retire.ensures.items c.retire.ensures.len c.take_out-e.ensures.capacity;
+    }
 
 pub returns : goal.returns
 returns c =
