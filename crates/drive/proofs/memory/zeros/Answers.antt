@@ -4,5 +4,5 @@ use Rattle.drive.proofs.memory.zeros.Goals as goal
 
 pub invariant_of-result : goal.invariant_of-result
 invariant_of-result c =
-    let k = kept_zeros (vec_items c.in-Ok.slots) _ c.in-Ok.ensures (omega arith) (omega arith) in
+    let k = kept_zeros c.in-Ok.slots.items _ c.in-Ok.ensures (omega arith) (omega arith) in
     record { some = k.some; few = k.few; full = k.full; bytes = k.bytes }

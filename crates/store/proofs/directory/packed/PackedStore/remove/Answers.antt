@@ -19,7 +19,7 @@ copy_within-requires c =
     let s = c.args.self.now in
     let l = packed_lies (vec_items s.entries) c.args.i s.used c.bytes_before-start.result (vec_len s.area) (omega (arith, s.entries.ok.0)) s.sums (c.bytes_before-start.ensures ∙ ap (λ z. total packed_room (take c.args.i z)) c.deref.ensures.value) in
     let e = ap (λ z. z.length) c.take_out-e.ensures.gone in
-    record { start_le_end = omega (arith, l.back, l.within); in_bounds = l.within; dest-in_bounds = omega (arith, l.back, l.within); not-exhausted = tt }
+    record { start_le_end = omega (arith, l.back, l.within); in_bounds = l.within; dest_in_bounds = omega (arith, l.back, l.within); not_exhausted = tt }
 
 pub overflow_sub-self : goal.overflow_sub-self
 overflow_sub-self c =
