@@ -1,14 +1,14 @@
 -- The step that cuts off a token finds the part that the line begins with. Assumes nothing.
-use Rattle.std.proofs.Common.{◌≡◌, ℕ, zero, suc, ◌+◌, ◌-◌, ◌*◌, ◌^◌, ◌<◌, ◌≤◌, Bool, true, false, cond, ◌&&◌, eqb, ltb, leb, List, [], ◌∷◌, ◌++◌, map, length, get_or, take, drop, IfNone, Some, None, decimal, Option, sym, refl, ap, ◌∙◌, subst, append_assoc, arith}
+use Rattle.std.proofs.Common.{◌≡◌, ℕ, suc, ◌+◌, ◌-◌, ◌^◌, ◌<◌, ◌≤◌, Bool, true, false, cond, eqb, leb, List, [], ◌∷◌, ◌++◌, map, length, get_or, take, drop, IfNone, Some, None, decimal, Option, sym, refl, ap, ◌∙◌, subst, append_assoc, arith}
 use Rattle.std.specs.Option.{option_map}
 use Rattle.commands.specs.declared.token.Token.{Token}
-use Rattle.std.proofs.lemmas.List.{length-append, take_at, drop_at, take-append-drop, take_rest, drop-drop}
-use Rattle.std.proofs.lemmas.Bool.{and_parts, and_from, and_left, and_right, eqb-true, ne_eqb, leb-true, le-leb, lt-leb}
+use Rattle.std.proofs.lemmas.List.{take_at, drop_at, take-append-drop, take_rest, drop-drop}
+use Rattle.std.proofs.lemmas.Bool.{and_parts, and_from, and_left, and_right, eqb-true, ne_eqb, leb-true, lt-leb}
 use Rattle.commands.specs.Numbers.{digit, number_in}
 use Rattle.commands.specs.Grammar.{spaced, listed, bytes_only, letter, letters, Part, opening, closing, gap, word, number, bytes, spelt, Fit, Ends, Begins}
 use Rattle.commands.specs.Elements.{list_in}
 use Rattle.commands.specs.Tokens.{run, cut, cut_opened, part, Taken}
-use Rattle.commands.proofs.Figures.{digit_range, number_is, number_back, Number, none_some, some_same}
+use Rattle.commands.proofs.Figures.{digit_range, number_is, number_back, none_some, some_same}
 use Rattle.commands.proofs.Listings.{decimal_first, head_rest, listed_end, list_is, list_back, bytes_first}
 
 letter_range : (c : ℕ) → letter c ≡ true → (97 ≤ c) × (c ≤ 122)

@@ -1,10 +1,10 @@
 -- Lists of bytes: reading one finds the list that is written. Assumes nothing.
-use Rattle.std.proofs.Common.{◌≡◌, ℕ, zero, suc, ◌+◌, ◌-◌, ◌*◌, ◌/◌, ◌%◌, ◌^◌, ◌<◌, ◌≤◌, Bool, true, false, cond, ◌&&◌, eqb, ltb, leb, List, [], ◌∷◌, ◌++◌, map, length, get_or, take, drop, Some, None, decimal, Option, sym, refl, ap, ◌∙◌, subst, append_assoc, arith}
+use Rattle.std.proofs.Common.{◌≡◌, ℕ, zero, suc, ◌+◌, ◌-◌, ◌*◌, ◌%◌, ◌^◌, ◌<◌, ◌≤◌, Bool, true, false, cond, eqb, ltb, List, [], ◌∷◌, ◌++◌, map, length, get_or, take, drop, Some, None, decimal, Option, sym, refl, ap, ◌∙◌, subst, append_assoc, arith}
 use Rattle.std.specs.Option.{option_map}
-use Rattle.std.proofs.lemmas.List.{length-append, length-drop, drop-drop, take_at, append-nil}
+use Rattle.std.proofs.lemmas.List.{length-append, length-drop, drop-drop, take_at}
 use Rattle.std.proofs.lemmas.Fmt.{decimal_nonempty, decimal_by_steps}
-use Rattle.std.proofs.lemmas.Bool.{and_parts, and_from, eqb-true, eqb-false, ne_eqb, ltb-true, lt-ltb}
-use Rattle.commands.specs.Numbers.{digit, number_on, number_in}
+use Rattle.std.proofs.lemmas.Bool.{and_parts, and_from, eqb-true, ne_eqb, ltb-true, lt-ltb}
+use Rattle.commands.specs.Numbers.{digit, number_in}
 use Rattle.commands.specs.Grammar.{spaced, listed, bytes_only}
 use Rattle.commands.specs.Values.{values, values_on, Listing}
 use Rattle.commands.specs.Elements.{bind, elements, front, valued, list_in}

@@ -1,9 +1,9 @@
 -- Reading a line finds the call that is written so. Assumes nothing.
-use Rattle.std.proofs.Common.{◌≡◌, ℕ, ◌+◌, ◌-◌, ◌^◌, ◌<◌, ◌≤◌, Bool, true, false, cond, eqb, leb, List, [], ◌∷◌, ◌++◌, map, length, get_or, IfOk, Some, None, Ok, Err, codes, decimal, Option, Result, sym, refl, ap, ◌∙◌, subst, append_assoc, arith, lit<}
+use Rattle.std.proofs.Common.{◌≡◌, ℕ, ◌^◌, ◌<◌, Bool, true, false, cond, eqb, List, [], ◌∷◌, ◌++◌, map, length, get_or, IfOk, Some, None, Ok, Err, codes, decimal, Option, Result, sym, refl, ap, ◌∙◌, subst, append_assoc, arith, lit<}
 use Rattle.std.specs.Str.{bytes_eq}
 use Rattle.std.proofs.lemmas.Slice.Eq.{bytes_eq-Decides}
 use Rattle.std.proofs.lemmas.List.{nil_from_length}
-use Rattle.std.proofs.lemmas.Bool.{eqb-true, leb-true}
+use Rattle.std.proofs.lemmas.Bool.{eqb-true}
 use Rattle.commands.specs.declared.call.Verb.{Verb}
 use Rattle.commands.specs.declared.call.Verb.TheVariants.{Make, Write, Read, Flush, Seal, Poll, Checkpoint, Clean, Reap, Cut, Mount}
 use Rattle.commands.specs.declared.call.StoreKind.{StoreKind}
@@ -20,7 +20,7 @@ use Rattle.commands.proofs.Listings.{listed_end}
 use Rattle.commands.specs.Numbers.{digit}
 use Rattle.commands.specs.Grammar.{spaced, listed, letter, Part, opening, closing, gap, word, number, bytes, spelt, Fit, Ends, Begins}
 use Rattle.commands.specs.Tokens.{cut}
-use Rattle.commands.specs.Calls.{verb_word, store_word, drive_word, fate_word, Asked, make, write, read, flush, seal, poll, checkpoint, clean, reap, cut_kept, cut_lost, mount, verb, items, written, AllFit, asked, Whole, Asks, OneMeaning}
+use Rattle.commands.specs.Calls.{verb_word, store_word, drive_word, fate_word, Asked, make, write, read, flush, seal, poll, checkpoint, clean, reap, cut_kept, cut_lost, mount, verb, items, written, AllFit, asked, Whole, OneMeaning}
 use Rattle.commands.specs.Reading.{chain, named, the_opening, the_closing, the_gap, the_number, the_bytes, the_word, verbs, stores, drives, fates, the_verb, the_store, the_drive, the_fate, picked, wanted, at, item, cut_items, items_of, ended, reading, turned, left_of, Found, ReadsBack}
 use Rattle.commands.proofs.Figures.{none_some}
 use Rattle.commands.proofs.Cuts.{cut_is, cut_back}

@@ -1,5 +1,5 @@
 -- The table of calls: the word and the items of each, and how it is written. Assumes nothing.
-use Rattle.std.specs.Prelude.{◌≡◌, ℕ, ◌≤◌, List, [], ◌∷◌, ◌++◌, map, length, codes, decimal}
+use Rattle.std.specs.Prelude.{◌≡◌, ℕ, ◌≤◌, List, [], ◌∷◌, ◌++◌, map, length, codes}
 use Rattle.commands.specs.declared.call.Verb.{Verb}
 use Rattle.commands.specs.declared.call.Verb.TheVariants.{Make, Write, Read, Flush, Seal, Poll, Checkpoint, Clean, Reap, Cut, Mount}
 use Rattle.commands.specs.declared.call.StoreKind.{StoreKind}

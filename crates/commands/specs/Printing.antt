@@ -1,5 +1,5 @@
 -- The text of a call, with its list as it stands in its line. Assumes nothing.
-use Rattle.std.specs.Prelude.{ℕ, List, [], ◌∷◌, ◌++◌, codes, decimal}
+use Rattle.std.specs.Prelude.{ℕ, List, ◌++◌, codes, decimal}
 use Rattle.commands.specs.declared.call.Call.{Call}
 use Rattle.commands.specs.declared.call.Call.TheVariants.{Make, Write, Read, Flush, Seal, Poll, Checkpoint, Clean, Reap, CutKept, CutLost, Mount}
 use Rattle.commands.specs.declared.list.ByteList.{ByteList}

@@ -1,5 +1,5 @@
 -- What a token stands for, and the step that cuts one off. Assumes nothing.
-use Rattle.std.specs.Prelude.{◌≡◌, ℕ, ◌+◌, ◌-◌, ◌^◌, cond, List, [], ◌∷◌, length, take, drop, Some, None, Option, ◌==◌, slice_index}
+use Rattle.std.specs.Prelude.{◌≡◌, ℕ, ◌+◌, ◌-◌, ◌^◌, cond, List, [], ◌∷◌, take, drop, Some, None, Option, ◌==◌, slice_index}
 use Rattle.std.specs.Option.{option_map}
 use Rattle.commands.specs.declared.token.Token.{Token}
 use Rattle.commands.specs.declared.token.Token.TheVariants.{Open, Close, Space, Word, Number, List as Bytes}

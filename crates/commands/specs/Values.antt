@@ -1,6 +1,6 @@
 -- The numbers that a list's text writes. Assumes nothing.
-use Rattle.std.specs.Prelude.{◌≡◌, ℕ, ◌+◌, ◌-◌, ◌*◌, ◌≤◌, Bool, true, false, cond, List, [], ◌∷◌, ◌++◌, Some, None, Option, ◌==◌}
-use Rattle.commands.specs.Grammar.{listed, bytes_only}
+use Rattle.std.specs.Prelude.{◌≡◌, ℕ, ◌+◌, ◌-◌, ◌*◌, ◌≤◌, Bool, true, false, cond, List, [], ◌∷◌, Some, None, Option, ◌==◌}
+use Rattle.commands.specs.Grammar.{listed}
 
 -- The numbers of a text, of whose first number n is what its digits before the text write, if there are any.
 abbrev pub values_on : Option ℕ → List ℕ → List ℕ

@@ -1,7 +1,7 @@
 -- The calls of the drives in memory, as the relations of every drive.
-use Rattle.std.proofs.Common.{◌≡◌, ℕ, suc, ◌<◌, ◌≤◌, Bool, true, false, cond, List, [], ◌∷◌, length, get_or, set, IfOk, Ok, Err, Result, sym, refl, ap, ◌∙◌, arith}
+use Rattle.std.proofs.Common.{◌≡◌, ℕ, suc, Bool, true, false, cond, List, [], ◌∷◌, length, IfOk, Ok, Err, Result, refl, ap, arith}
 use Rattle.std.proofs.lemmas.List.{length-set}
-use Rattle.drive.specs.Views.{Slot, DriveView, Write, Wrote, Cut, mixed, bit, settled, cut_by, wrote_current, wrote_through}
+use Rattle.drive.specs.Views.{Slot, Write, mixed, bit, settled, cut_by, wrote_current, wrote_through}
 use Rattle.drive.specs.Areas.{AreaWrite, WroteBeside, WroteThrough, view}
 use Rattle.drive.specs.declared.DriveFault.{DriveFault}
 

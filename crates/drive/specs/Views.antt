@@ -1,5 +1,5 @@
 -- What a drive means, and what each of its calls does to that.
-use Rattle.std.specs.Prelude.{◌≡◌, ℕ, zero, suc, ◌/◌, ◌%◌, ◌^◌, ◌<◌, ◌≤◌, Bool, true, false, cond, List, [], ◌∷◌, map, length, replicate, Ok, Err, Result, ◌==◌, slice_index, slice_index_or, slice_set}
+use Rattle.std.specs.Prelude.{◌≡◌, ℕ, suc, ◌/◌, ◌%◌, ◌^◌, ◌<◌, ◌≤◌, Bool, cond, List, [], ◌∷◌, length, replicate, Ok, Err, Result, ◌==◌, slice_index, slice_index_or, slice_set}
 use Rattle.drive.specs.declared.DriveFault.{DriveFault}
 use Rattle.drive.specs.declared.DriveFault.TheVariants.{NoSuchSlot}
 use Rattle.drive.specs.declared.MakeFault.{MakeFault}

@@ -1,8 +1,8 @@
 -- The laws of `le` at every width, and of fields in a text of bytes. Assumes nothing.
-use Rattle.std.proofs.Common.{◌≡◌, ℕ, zero, suc, ◌+◌, ◌-◌, ◌*◌, ◌/◌, ◌%◌, ◌^◌, ◌<◌, ◌≤◌, true, cond, leb, List, [], ◌∷◌, ◌++◌, length, get_or, take, drop, IfSome, Some, None, Option, sym, refl, ap, ◌∙◌, subst, pow-suc, arith, le-leb}
+use Rattle.std.proofs.Common.{◌≡◌, ℕ, zero, suc, ◌+◌, ◌-◌, ◌*◌, ◌/◌, ◌%◌, ◌^◌, ◌<◌, ◌≤◌, List, [], ◌∷◌, length, get_or, take, drop, IfSome, Some, Option, sym, refl, ap, ◌∙◌, subst, pow-suc, arith, le-leb}
 use borrow.Rule.Slice.PartMut.{put_mid}
-use Rattle.std.proofs.lemmas.List.{drop_more, drop_all, get_or-drop, get_or-take, length-take-le, length-drop, length-append, take_at, drop_at}
-use Rattle.endian.specs.Fields.{le, unle, lies, placed, LittleEndian, FieldsStand}
+use Rattle.std.proofs.lemmas.List.{drop_more, drop_all, get_or-drop, length-take-le, length-drop}
+use Rattle.endian.specs.Fields.{le, unle, placed, FieldsStand}
 
 -- a number has as many bytes as the width says
 pub length_le : (width value : ℕ) → length (le width value) ≡ width

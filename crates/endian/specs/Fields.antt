@@ -1,5 +1,5 @@
 -- Numbers as bytes, the lowest byte first, and fields of a text of bytes. Assumes nothing.
-use Rattle.std.specs.Prelude.{◌≡◌, ℕ, zero, suc, ◌+◌, ◌*◌, ◌/◌, ◌%◌, ◌^◌, ◌<◌, Bool, cond, List, [], ◌∷◌, ◌++◌, length, nat_le, slice_index}
+use Rattle.std.specs.Prelude.{◌≡◌, ℕ, zero, suc, ◌+◌, ◌*◌, ◌/◌, ◌%◌, ◌^◌, ◌<◌, Bool, cond, List, [], ◌∷◌, length, nat_le, slice_index}
 use borrow.Rule.Slice.PartMut.{put_mid}
 
 -- the lowest `width` bytes of a number

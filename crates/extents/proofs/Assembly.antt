@@ -1,13 +1,13 @@
 -- The table that `insert` puts together from its parts. Assumes nothing.
-use Rattle.std.proofs.Common.{◌≡◌, ℕ, ◌+◌, ◌-◌, ◌^◌, ◌<◌, ◌≤◌, Bool, true, ◌&&◌, leb, List, [], ◌∷◌, ◌++◌, length, take, drop, Option, sym, refl, ap, ◌∙◌, subst, arith}
+use Rattle.std.proofs.Common.{◌≡◌, ℕ, ◌+◌, ◌-◌, ◌^◌, ◌<◌, ◌≤◌, Bool, true, leb, List, ◌∷◌, ◌++◌, length, take, drop, Option, sym, ap, ◌∙◌, subst, arith}
 use Rattle.std.proofs.lemmas.Bool.{and_parts, leb-true}
-use Rattle.std.proofs.lemmas.List.{take-take, drop-drop, length-take-le, length-drop, append_assoc}
+use Rattle.std.proofs.lemmas.List.{take-take, drop-drop, length-take-le, length-drop}
 use Rattle.extents.specs.declared.extent.Extent.{Extent}
 use Rattle.extents.specs.Laws.{Laws}
 use Rattle.extents.specs.Map.{end, target_at, is_table, in_range, all_in_range}
 use Rattle.extents.specs.Answers.{overlaid}
 use Rattle.extents.specs.Steps.{reach, joined, joined_onto, left_of, right_of, at_head, listed, EndsInWidth}
-use Rattle.extents.proofs.Tables.{Table, Ranged, table, table_test, ranged, ranged_test}
+use Rattle.extents.proofs.Tables.{Ranged, table, table_test, ranged, ranged_test}
 use Rattle.extents.proofs.Reach.{past_reach, reach_within, reach_rises, range_drop}
 use Rattle.extents.proofs.Joining.{listed_short, head_held, joined_length}
 use Rattle.extents.proofs.Insertion.{left_list, right_list, inserted, right_end, right_parts, left_parts, inserted_table, inserted_range, inserted_target, rest_range}

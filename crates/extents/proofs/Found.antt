@@ -1,10 +1,10 @@
 -- The extent at which `reached` stops. Assumes nothing.
-use Rattle.std.proofs.Common.{◌≡◌, ℕ, ◌+◌, ◌-◌, ◌<◌, ◌≤◌, Bool, true, false, cond, List, [], ◌∷◌, length, get_or, take, drop, Some, None, Option, sym, refl, ap, ◌∙◌, subst, arith}
+use Rattle.std.proofs.Common.{◌≡◌, ℕ, ◌+◌, ◌-◌, ◌<◌, ◌≤◌, Bool, true, List, ◌∷◌, length, get_or, drop, None, sym, ap, ◌∙◌, subst, arith}
 use Rattle.std.proofs.lemmas.Bool.{cond-true}
 use Rattle.std.proofs.lemmas.List.{drop_all}
 use Rattle.extents.specs.declared.extent.Extent.{Extent}
 use Rattle.extents.specs.Laws.{Laws, fitting}
-use Rattle.extents.specs.Map.{end, target_in, target_at, is_table, all_in_range}
+use Rattle.extents.specs.Map.{end, target_at, is_table, all_in_range}
 use Rattle.extents.specs.Steps.{reach}
 use Rattle.extents.proofs.Tables.{Table, Ranged, ranged, inside, none_before, table, fits_before}
 use Rattle.extents.proofs.Reach.{Past, past_reach, entry_is, table_drop, range_drop, target_from}

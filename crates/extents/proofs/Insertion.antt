@@ -1,10 +1,10 @@
 -- What an insertion gives. Assumes nothing.
-use Rattle.std.proofs.Common.{◌≡◌, ℕ, ◌+◌, ◌-◌, ◌^◌, ◌<◌, ◌≤◌, Bool, true, false, cond, ◌&&◌, eqb, ltb, leb, List, [], ◌∷◌, ◌++◌, length, take, drop, Some, None, Option, sym, refl, ap, ◌∙◌, subst, inl, inr, ⊎_elim, arith}
+use Rattle.std.proofs.Common.{◌≡◌, ℕ, ◌+◌, ◌-◌, ◌^◌, ◌<◌, ◌≤◌, Bool, true, false, cond, ltb, leb, List, [], ◌∷◌, ◌++◌, length, take, drop, Some, None, Option, sym, refl, ap, ◌∙◌, subst, inl, inr, ⊎_elim, arith}
 use Rattle.std.proofs.lemmas.Bool.{cond-true, cond-false, cond_both, and_from, and_left, and_right, le-leb, lt-leb, leb-true, leb-false, lt-ltb, le-ltb, ltb-true, ltb-false, ne_eqb, cases_lt}
-use Rattle.std.proofs.lemmas.List.{take-append-drop, take-take, drop-drop}
+use Rattle.std.proofs.lemmas.List.{take-append-drop}
 use Rattle.extents.specs.declared.extent.Extent.{Extent}
 use Rattle.extents.specs.Laws.{Laws}
-use Rattle.extents.specs.Map.{extent, end, covers, target_in, target_at, goes_on}
+use Rattle.extents.specs.Map.{extent, end, covers, target_at, goes_on}
 use Rattle.extents.specs.Answers.{overlaid}
 use Rattle.extents.specs.Steps.{reach, joined, joined_onto, without, left_of, right_of, at_head, listed, EndsInWidth}
 use Rattle.extents.proofs.Tables.{Next, Table, From, Ranged, from_weaker, from_next, inside, before, beyond, none_before, target_behind, onward, fits_before}
@@ -179,8 +179,8 @@ module _ {T : Type 0} {adv : T → ℕ → T} {same : T → T → Bool} {fits : 
         (cases_lt b a)
 
 cond_append : {X : Type 0} (b : Bool) (xs ys zs : List X) → cond b (xs ++ zs) (ys ++ zs) ≡ cond b xs ys ++ zs
-cond_append true xs ys zs = refl
-cond_append false xs ys zs = refl
+cond_append true _ _ _ = refl
+cond_append false _ _ _ = refl
 
 -- the same table, put together from the parts that the code makes
 module _ {T : Type 0} (adv : T → ℕ → T) (same : T → T → Bool) where

@@ -1,12 +1,10 @@
 -- The worked examples. Assumes nothing.
-use Rattle.std.proofs.Common.{◌≡◌, ℕ, ◌≤◌, List, [], ◌∷◌, sym, refl, ◌∙◌, arith}
-use Rattle.extents.specs.declared.extent.Extent.{Extent}
-use Rattle.extents.specs.declared.target.Place.{Place}
-use Rattle.extents.specs.Kinds.{place_advanced, place_same, place_laws}
+use Rattle.std.proofs.Common.{◌≡◌, ℕ, [], ◌∷◌, sym, refl, ◌∙◌, arith}
+use Rattle.extents.specs.Kinds.{place_advanced, place_laws}
 use Rattle.extents.specs.Map.{target_at}
 use Rattle.extents.specs.Answers.{overlaid}
 use Rattle.extents.specs.Examples.{Examples, stretch}
-use Rattle.extents.proofs.Tables.{one_writing, table, table_test}
+use Rattle.extents.proofs.Tables.{one_writing, table}
 use Rattle.extents.proofs.Joining.{joined_target}
 use Rattle.extents.proofs.Insertion.{inserted_target}
 

@@ -1,12 +1,12 @@
 -- What a call does to a map, by its answer. Assumes nothing.
-use Rattle.std.specs.Prelude.{◌≡◌, ℕ, ◌<◌, Bool, true, cond, List, [], ◌∷◌, ◌++◌, Some, None, Ok, Err, Option, Result}
+use Rattle.std.specs.Prelude.{◌≡◌, ℕ, ◌<◌, Bool, true, cond, [], ◌∷◌, ◌++◌, Some, None, Ok, Err, Option, Result}
 use Rattle.extents.specs.declared.fault.MapFault.{MapFault}
 use Rattle.extents.specs.declared.extent.Extent.{Extent}
 use Rattle.extents.specs.declared.table.rows.Rows.{Rows}
 use Rattle.extents.specs.Map.{covers, target_in, target_at, is_table}
 use Rattle.extents.specs.Order.{unless_below}
-use Rattle.extents.specs.Faults.{fault_number, room_refusal, extent_refusal, append_refusal}
-use Rattle.extents.specs.Rows.{table_of, sound}
+use Rattle.extents.specs.Faults.{fault_number, extent_refusal, append_refusal}
+use Rattle.extents.specs.Rows.{table_of}
 
 -- A new map of so many blocks, of which none has a target.
 abbrev pub Made : {T : Type 0} → ℕ → Rows T → Type 0

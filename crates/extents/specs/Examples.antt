@@ -1,5 +1,5 @@
 -- The worked examples, on the definitions. Assumes nothing.
-use Rattle.std.specs.Prelude.{◌≡◌, ℕ, Bool, true, false, List, [], ◌∷◌}
+use Rattle.std.specs.Prelude.{◌≡◌, ℕ, true, false, List, [], ◌∷◌}
 use Rattle.extents.specs.declared.extent.Extent.{Extent}
 use Rattle.extents.specs.declared.target.Place.{Place}
 use Rattle.extents.specs.Kinds.{place, place_advanced, place_same}

@@ -1,17 +1,17 @@
 -- What a walk through the directory answers about the meaning.
-use Rattle.std.proofs.Common.{◌≡◌, ℕ, zero, suc, ◌+◌, ◌-◌, ◌<◌, ◌≤◌, Bool, true, false, cond, eqb, leb, List, [], ◌∷◌, ◌++◌, length, get_or, take, drop, is_some, Some, None, Ok, Err, Option, Result, unwrap_or, sym, refl, ap, ◌∙◌, subst, arith, rules}
+use Rattle.std.proofs.Common.{◌≡◌, ℕ, ◌+◌, ◌-◌, ◌<◌, ◌≤◌, true, false, cond, leb, List, [], ◌∷◌, length, take, drop, is_some, Some, None, Ok, Err, Result, unwrap_or, sym, refl, ap, ◌∙◌, arith}
 use Rattle.std.specs.Option.{option_map, ok_or}
 use Rattle.std.proofs.lemmas.Bool.Decides.{nat_tests}
 use Rattle.std.proofs.lemmas.Bool.{le-leb, lt-leb, cond-true, cond-false}
-use Rattle.std.proofs.lemmas.List.{length-take-le, length-take, length-drop, nil_from_length, drop-drop, drop-take, take-take}
+use Rattle.std.proofs.lemmas.List.{length-take-le, length-drop, nil_from_length, drop-drop, drop-take, take-take}
 use Rattle.store.specs.declared.directory.Entry.{Entry}
 use Rattle.store.specs.declared.fault.StoreFault.{StoreFault}
 use Rattle.store.specs.declared.fault.StoreFault.TheVariants.{Length, Taken, Crowded, Full, Absent, PastEnd}
-use Rattle.store.specs.Views.{Object, StoreView, bytes_of, next_from, has}
+use Rattle.store.specs.Views.{Object, bytes_of, has}
 use Rattle.store.specs.Calls.{sized, get_refusal, part, delete_refusal}
 use Rattle.store.specs.Items.{landed_of, pending_of, view}
-use Rattle.store.specs.Entries.{items, total, waits, stored, lowest, tidy, Found, PartFound, Listed}
-use Rattle.store.proofs.Entered.{lowest_items, absent_items, has_items, waits_items}
+use Rattle.store.specs.Entries.{items, total, waits, stored, tidy, Found, PartFound, Listed}
+use Rattle.store.proofs.Entered.{absent_items, has_items, waits_items}
 use Rattle.store.proofs.Changes.{here, bytes_at, total_split, waits_split}
 
 -- what has bytes is there

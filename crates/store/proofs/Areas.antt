@@ -1,8 +1,8 @@
 -- Bytes of an area that are written or moved.
-use Rattle.std.proofs.Common.{◌≡◌, ℕ, zero, suc, ◌+◌, ◌-◌, ◌<◌, ◌≤◌, List, [], ◌∷◌, ◌++◌, length, get_or, take, drop, sym, refl, ap, ◌∙◌, subst, arith, rules}
+use Rattle.std.proofs.Common.{◌≡◌, ℕ, ◌+◌, ◌-◌, ◌≤◌, List, ◌++◌, length, take, drop, refl, ap, ◌∙◌, arith}
 use borrow.Rule.Slice.PartMut.{post_of}
 use lib.Seq.{paste}
-use Rattle.std.proofs.lemmas.List.{length-append, length-drop, length-take, length-take-le, take_at, drop_at, drop-drop, take-append-drop, append_assoc, take-take, take-append-le, drop-append-le}
+use Rattle.std.proofs.lemmas.List.{length-append, length-drop, length-take, length-take-le, take_at, drop_at, drop-drop, append_assoc}
 
 -- what a vector holds once part of it has been written
 pub written : (xs ys d z bs : List ℕ) (n at k e : ℕ) → n ≡ length xs → d ≡ xs → z ≡ bs → k ≡ length bs → e ≡ at + k → at + k ≤ n

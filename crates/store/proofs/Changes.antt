@@ -1,13 +1,12 @@
 -- An entry of a directory lands or goes.
-use Rattle.std.proofs.Common.{◌≡◌, ℕ, zero, suc, ◌+◌, ◌-◌, ◌*◌, ◌<◌, ◌≤◌, Bool, true, false, cond, not, ◌&&◌, ◌||◌, eqb, ltb, leb, List, [], ◌∷◌, ◌++◌, length, get_or, take, drop, Some, None, Option, sym, refl, ap, ◌∙◌, subst, arith, rules}
+use Rattle.std.proofs.Common.{◌≡◌, ℕ, suc, ◌+◌, ◌-◌, ◌<◌, ◌≤◌, true, false, cond, List, [], ◌∷◌, ◌++◌, length, get_or, take, drop, Some, sym, ap, ◌∙◌, subst, arith}
 use Rattle.std.specs.List.{remove}
-use Rattle.std.proofs.lemmas.Bool.{and_parts, leb-true}
 use Rattle.std.proofs.lemmas.List.{length-append}
 use Rattle.store.specs.declared.directory.Entry.{Entry}
-use Rattle.store.specs.Views.{StoreView, bytes_of}
+use Rattle.store.specs.Views.{bytes_of}
 use Rattle.store.specs.Calls.{Lands, deleting, vanishing, lawful_length}
 use Rattle.store.specs.Items.{landed_of, view}
-use Rattle.store.specs.Entries.{items, total, waits, named, tidy, risen, blank, Listed}
+use Rattle.store.specs.Entries.{items, total, waits, tidy, risen, blank, Listed}
 use Rattle.store.proofs.Entered.{total_append, waits_append}
 use Rattle.store.proofs.Tidy.{split_at, tidy_risen, tidy_removed, tidy_length}
 use Rattle.store.proofs.Moves.{land_move, delete_move, vanish_move, found_bytes}

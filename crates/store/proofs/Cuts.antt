@@ -1,9 +1,9 @@
 -- A cut, one pending put after another.
-use Rattle.std.proofs.Common.{◌≡◌, ℕ, zero, suc, ◌+◌, ◌-◌, ◌/◌, ◌%◌, ◌<◌, ◌≤◌, Bool, true, false, cond, eqb, List, [], ◌∷◌, ◌++◌, length, get_or, drop, Some, None, Option, sym, refl, ap, ◌∙◌, subst, arith, rules}
+use Rattle.std.proofs.Common.{◌≡◌, ℕ, zero, suc, ◌/◌, ◌%◌, ◌<◌, Bool, true, false, cond, eqb, List, [], ◌∷◌, length, get_or, Some, None, Option, sym, refl, ap, ◌∙◌, subst, rules}
 use Rattle.std.specs.List.{remove}
 use Rattle.std.proofs.lemmas.Bool.{eq-eqb, ne_eqb}
 use Rattle.std.proofs.lemmas.List.{nil_from_length}
-use Rattle.store.specs.Views.{Object, nothing, StoreView, holding, place, place_all, chosen, bits}
+use Rattle.store.specs.Views.{Object, nothing, StoreView, holding, place_all, chosen, bits}
 use Rattle.store.specs.Calls.{Lands, landing, vanishing, settling, CutBy, CutTo, Polled, PolledAt}
 
 first_of : (ps : List Object) → 0 < length ps → ps ≡ get_or ps 0 nothing ∷ remove ps 0

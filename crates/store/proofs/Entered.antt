@@ -1,13 +1,12 @@
 -- A directory's entries, and the items that they make of an area.
-use Rattle.std.proofs.Common.{◌≡◌, ℕ, zero, suc, ◌+◌, ◌-◌, ◌<◌, ◌≤◌, Bool, true, false, cond, not, ◌&&◌, ◌||◌, eqb, ltb, leb, List, [], ◌∷◌, ◌++◌, length, get_or, take, drop, set, Some, None, Option, sym, refl, ap, ◌∙◌, subst, arith, length-drop, length-take, rules}
+use Rattle.std.proofs.Common.{◌≡◌, ℕ, ◌+◌, ◌≤◌, false, ◌&&◌, ◌||◌, eqb, List, [], ◌∷◌, ◌++◌, length, take, drop, None, sym, refl, ap, ◌∙◌, arith, length-drop}
 use Rattle.std.proofs.lemmas.Bool.Decides.{nat_tests}
-use Rattle.std.proofs.lemmas.Bool.{or_parts, eqb-false, cond-true, cond-false, and_parts, not-true, leb-true}
+use Rattle.std.proofs.lemmas.Bool.{or_parts}
 use Rattle.std.proofs.lemmas.List.{drop-drop, take-take, drop-take, length-take-le}
 use Rattle.store.specs.declared.directory.Entry.{Entry}
-use Rattle.store.specs.Views.{Object, has, bytes_of, place, without, next_from, weighed}
-use Rattle.store.specs.Items.{Item, landed_of, pending_of, view}
-use Rattle.store.specs.Entries.{item, items, total, waits, named, stored, offer, lowest, tidy, risen}
-use Rattle.store.specs.Views.{lower, from_on}
+use Rattle.store.specs.Views.{has, bytes_of, next_from}
+use Rattle.store.specs.Items.{landed_of, pending_of}
+use Rattle.store.specs.Entries.{item, items, total, waits, named, stored, lowest}
 use Rattle.store.proofs.Placing.{has_place, next_place, bytes_place}
 use Rattle.store.proofs.Listing.{numbered, weighs}
 

@@ -1,12 +1,12 @@
 -- Pages one after another.
-use Rattle.std.proofs.Common.{◌≡◌, ℕ, zero, suc, ◌+◌, ◌-◌, ◌*◌, ◌/◌, ◌%◌, ◌<◌, ◌≤◌, Bool, true, false, cond, ◌&&◌, eqb, ltb, leb, List, [], ◌∷◌, ◌++◌, length, get_or, take, drop, sym, refl, ap, ◌∙◌, subst, ⊎_elim, arith, take-add, rules}
+use Rattle.std.proofs.Common.{◌≡◌, ℕ, zero, suc, ◌+◌, ◌-◌, ◌*◌, ◌<◌, ◌≤◌, true, false, cond, ◌&&◌, eqb, ltb, List, [], ◌∷◌, ◌++◌, length, get_or, take, drop, sym, refl, ap, ◌∙◌, ⊎_elim, arith, take-add, rules}
 use lib.Seq.{paste}
 use Rattle.std.proofs.lemmas.Bool.Decides.{nat_tests}
 use Rattle.std.proofs.lemmas.Bool.{and_parts, and_from, ltb-true, eqb-false, cases_lt, cases_eq, lt-ltb}
 use Rattle.std.specs.List.{range_with_len}
 use Rattle.std.proofs.lemmas.List.FromFn.{map-range_with_len_more}
-use Rattle.std.proofs.lemmas.List.{length-append, length-drop, length-take, length-take-le, take_at, drop_at, drop-drop, drop-take, take-take, take-append-drop, append_assoc, take-append-le, drop-append-le, drop_more, take_all, map-id}
-use Rattle.store.specs.PagedSound.{pages, paged_room, page, laid, copies, below}
+use Rattle.std.proofs.lemmas.List.{length-append, length-drop, length-take-le, take_at, drop_at, drop-drop, drop-take, take-take, take-append-drop, append_assoc, take-append-le, drop-append-le, drop_more, take_all, map-id}
+use Rattle.store.specs.PagedSound.{page, laid, copies, below}
 
 pub laid_append : (a ps qs : List ℕ) → laid a (ps ++ qs) ≡ laid a ps ++ laid a qs
 laid_append a [] qs = refl

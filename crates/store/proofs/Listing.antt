@@ -1,10 +1,10 @@
 -- What items mean, in parts.
-use Rattle.std.proofs.Common.{◌≡◌, ℕ, zero, suc, ◌+◌, ◌<◌, ◌≤◌, Bool, true, false, cond, not, ◌&&◌, ◌||◌, eqb, ltb, leb, List, [], ◌∷◌, ◌++◌, length, get_or, Some, None, Option, sym, refl, ap, ◌∙◌, subst, arith, rules}
+use Rattle.std.proofs.Common.{◌≡◌, ℕ, ◌+◌, Bool, false, cond, ◌||◌, eqb, List, [], ◌∷◌, ◌++◌, length, refl, ap, ◌∙◌, arith}
 use Rattle.std.proofs.lemmas.Bool.Decides.{nat_tests}
-use Rattle.std.proofs.lemmas.Bool.{or_parts, eqb-false, cond-true, cond-false}
-use Rattle.store.specs.Views.{Object, has, bytes_of, place, without, next_from, weighed}
-use Rattle.store.specs.Items.{Item, landed_of, pending_of, view}
-use Rattle.store.proofs.Placing.{has_place, weighed_place, place_comm, bytes_place}
+use Rattle.std.proofs.lemmas.Bool.{or_parts, eqb-false, cond-false}
+use Rattle.store.specs.Views.{has, place, weighed}
+use Rattle.store.specs.Items.{Item, landed_of, pending_of}
+use Rattle.store.proofs.Placing.{has_place, weighed_place, place_comm}
 
 -- whether an item has the number
 abbrev pub numbered : List Item → ℕ → Bool

@@ -1,17 +1,17 @@
 -- What a change of the directory and its area does to what a store means.
-use Rattle.std.proofs.Common.{◌≡◌, ℕ, zero, suc, ◌+◌, ◌-◌, ◌/◌, ◌%◌, ◌<◌, ◌≤◌, Bool, true, false, cond, not, ◌&&◌, ◌||◌, eqb, ltb, leb, List, [], ◌∷◌, ◌++◌, length, get_or, take, drop, set, Some, None, Option, sym, refl, ap, ◌∙◌, subst, arith, rules}
+use Rattle.std.proofs.Common.{◌≡◌, ℕ, suc, ◌<◌, ◌≤◌, true, false, cond, eqb, List, [], ◌∷◌, ◌++◌, length, get_or, take, drop, Some, sym, refl, ap, ◌∙◌, arith}
 use Rattle.std.specs.List.{remove}
 use Rattle.std.proofs.lemmas.Bool.Decides.{nat_tests}
-use Rattle.std.proofs.lemmas.Bool.{or_parts, or_from, cond-true, cond-false}
-use Rattle.std.proofs.lemmas.List.{append-nil, append_assoc, get_or_at, take_at, drop_at, length-append, drop-drop, nil_from_length}
+use Rattle.std.proofs.lemmas.Bool.{or_from, cond-true, cond-false}
+use Rattle.std.proofs.lemmas.List.{append-nil, append_assoc, get_or_at, take_at, drop_at, length-append}
 use Rattle.store.specs.declared.directory.Entry.{Entry}
-use Rattle.store.specs.Views.{Object, nothing, StoreView, holding, has, bytes_of, place, place_all, without, chosen, bits}
-use Rattle.store.specs.Calls.{putting, Lands, landing, deleting, settling, vanishing, CutBy, CutTo}
-use Rattle.store.specs.Items.{Item, landed_of, pending_of, view}
-use Rattle.store.specs.Entries.{item, items, total, waits, named, stored, tidy, risen}
-use Rattle.store.proofs.Placing.{has_place, bytes_place, without_placed}
+use Rattle.store.specs.Views.{Object, nothing, StoreView, bytes_of, place, without}
+use Rattle.store.specs.Calls.{putting, Lands, deleting, vanishing}
+use Rattle.store.specs.Items.{landed_of, pending_of, view}
+use Rattle.store.specs.Entries.{item, items, total, waits, tidy, risen}
+use Rattle.store.proofs.Placing.{bytes_place, without_placed}
 use Rattle.store.proofs.Listing.{numbered, landed_split, landed_skip, pending_append, landed_fresh, numbered_append}
-use Rattle.store.proofs.Entered.{items_append, numbered_items, waits_items, items_same, total_append}
+use Rattle.store.proofs.Entered.{items_append, numbered_items, waits_items, items_same}
 use Rattle.store.proofs.Tidy.{tidy_before, tidy_after}
 
 -- a view is known by its objects

@@ -1,24 +1,22 @@
 -- A packed store's invariant through its changes.
-use Rattle.std.proofs.Common.{◌≡◌, ℕ, zero, suc, ◌+◌, ◌-◌, ◌*◌, ◌/◌, ◌%◌, ◌<◌, ◌≤◌, Bool, true, false, cond, not, ◌&&◌, ◌||◌, eqb, ltb, leb, List, [], ◌∷◌, ◌++◌, length, get_or, take, drop, Some, None, vec_items, vec_len, vec_capacity, Option, sym, refl, ap, ◌∙◌, subst, arith, rules}
+use Rattle.std.proofs.Common.{◌≡◌, ℕ, suc, ◌+◌, ◌-◌, ◌*◌, ◌<◌, ◌≤◌, Bool, true, false, leb, List, [], ◌∷◌, ◌++◌, length, take, drop, None, vec_items, vec_len, vec_capacity, Option, sym, refl, ap, ◌∙◌, arith}
 use lib.Seq.{paste}
 use Rattle.std.specs.List.{remove}
-use Rattle.std.proofs.lemmas.Bool.Decides.{nat_tests}
-use Rattle.std.proofs.lemmas.Bool.{or_parts, and_parts, leb-true, le-leb}
+use Rattle.std.proofs.lemmas.Bool.{and_parts, leb-true}
 use Rattle.std.proofs.lemmas.List.{length-append, length-drop, drop-drop}
 use Rattle.store.specs.declared.directory.Entry.{Entry}
 use Rattle.store.specs.declared.fault.StoreFault.{StoreFault}
-use Rattle.store.specs.Views.{StoreView}
-use Rattle.store.specs.Calls.{put_refusal, putting, lawful_length, deleting, vanishing}
-use Rattle.store.specs.Items.{Item, landed_of, pending_of, view}
-use Rattle.store.specs.Entries.{items, total, waits, named, tidy, due, Listed}
+use Rattle.store.specs.Calls.{put_refusal, putting, deleting, vanishing}
+use Rattle.store.specs.Items.{view}
+use Rattle.store.specs.Entries.{items, total, waits, due, Listed}
 use Rattle.store.specs.declared.directory.packed.PackedStore.{PackedStore}
 use Rattle.store.specs.Packed.{packed}
 use Rattle.store.specs.PackedSound.{packed_room, packed_weight, PackedSums, PackedArea}
 use Rattle.store.proofs.Entered.{total_append}
 use Rattle.store.proofs.Admission.{Admitted, admitted, due_is, tidy_total}
 use Rattle.store.proofs.Areas.{before_written, at_written, closed_front, closed_back}
-use Rattle.store.proofs.Changes.{here, with_risen, total_split, total_risen, length_risen, total_removed, length_gone, Closes, deletes_at, vanishes_at, waits_split}
-use Rattle.store.proofs.Moves.{means, put_move}
+use Rattle.store.proofs.Changes.{here, with_risen, total_split, total_risen, length_risen, total_removed, length_gone, Closes, deletes_at, vanishes_at}
+use Rattle.store.proofs.Moves.{put_move}
 
 pub packed_total : (es : List Entry) → total packed_weight es ≡ total packed_room es + 12 * length es
 packed_total [] = refl

@@ -1,11 +1,11 @@
 -- One step of writing or reading pages.
-use Rattle.std.proofs.Common.{◌≡◌, ℕ, zero, suc, ◌+◌, ◌-◌, ◌*◌, ◌/◌, ◌%◌, ◌<◌, ◌≤◌, min, true, ◌&&◌, List, [], ◌∷◌, ◌++◌, length, get_or, take, drop, sym, refl, ap, ◌∙◌, subst, arith, take-add, rules}
+use Rattle.std.proofs.Common.{◌≡◌, ℕ, ◌+◌, ◌-◌, ◌*◌, ◌/◌, ◌%◌, ◌<◌, ◌≤◌, true, ◌&&◌, List, [], ◌++◌, length, get_or, take, drop, sym, ap, ◌∙◌, arith, take-add}
 use borrow.Rule.Slice.PartMut.{post_of}
 use lib.Seq.{paste}
 use Rattle.std.proofs.lemmas.Bool.{and_parts, and_from}
 use Rattle.std.proofs.lemmas.List.Edits.{paste-paste}
 use Rattle.std.proofs.lemmas.List.{length-append, length-drop, length-take, length-take-le, take_at, drop_at, drop-drop, take-append-drop, append_assoc, append-nil, take_rest, drop_all, take-append-le}
-use Rattle.store.specs.PagedSound.{page, laid, copies, below, GivenOnce}
+use Rattle.store.specs.PagedSound.{laid, copies, below, GivenOnce}
 use Rattle.store.proofs.Laid.{length_laid, laid_read, laid_write, laid_append, laid_take, laid_drop, copies_append, below_append}
 
 pub read_step : (area order out₀ out out' : List ℕ) (at done count p : ℕ) → below (length order) order ≡ true → length area ≡ 1024 * length order → at + length out₀ ≤ 1024 * length order → done < length out₀ → length out ≡ length out₀

@@ -1,18 +1,18 @@
 -- A paged store's invariant through its changes.
-use Rattle.std.proofs.Common.{◌≡◌, ℕ, zero, suc, ◌+◌, ◌-◌, ◌*◌, ◌/◌, ◌<◌, ◌≤◌, Bool, true, false, cond, not, ◌&&◌, ◌||◌, eqb, ltb, leb, List, [], ◌∷◌, ◌++◌, length, get_or, take, drop, Some, None, vec_items, vec_len, vec_capacity, Option, sym, refl, ap, ◌∙◌, subst, arith}
+use Rattle.std.proofs.Common.{◌≡◌, ℕ, suc, ◌+◌, ◌-◌, ◌*◌, ◌<◌, ◌≤◌, Bool, true, false, cond, leb, List, [], ◌∷◌, ◌++◌, length, take, drop, Some, None, vec_items, vec_len, vec_capacity, Option, sym, refl, ap, ◌∙◌, subst, arith}
 use lib.Seq.{paste}
 use Rattle.std.specs.List.{remove}
 use Rattle.std.proofs.lemmas.Bool.Decides.{nat_tests}
 use Rattle.std.proofs.lemmas.Bool.{and_parts, leb-true}
-use Rattle.std.proofs.lemmas.List.{length-append, take_all}
+use Rattle.std.proofs.lemmas.List.{take_all}
 use Rattle.store.specs.declared.directory.Entry.{Entry}
 use Rattle.store.specs.declared.fault.StoreFault.{StoreFault}
 use Rattle.store.specs.declared.directory.paged.PagedStore.{PagedStore}
 use Rattle.store.specs.Views.{StoreView}
-use Rattle.store.specs.Calls.{put_refusal, putting, deleting, vanishing, Lands, PolledNewest}
+use Rattle.store.specs.Calls.{put_refusal, putting, deleting, vanishing, Lands}
 use Rattle.store.specs.Items.{view}
-use Rattle.store.specs.Entries.{items, total, waits, tidy, due, Listed, Newest}
-use Rattle.store.specs.PagedSound.{pages, paged_room, laid, below, PagedSums, GivenOnce, PagedArea}
+use Rattle.store.specs.Entries.{items, total, waits, due, Newest}
+use Rattle.store.specs.PagedSound.{pages, paged_room, laid, below, PagedSums, PagedArea}
 use Rattle.store.specs.Paged.{paged}
 use Rattle.store.proofs.Entered.{total_append, waits_items}
 use Rattle.store.proofs.Admission.{Admitted, admitted, due_is, tidy_total}
@@ -20,7 +20,7 @@ use Rattle.store.proofs.Areas.{closed_front, closed_back}
 use Rattle.store.proofs.Moves.{put_move}
 use Rattle.store.proofs.Changes.{here, with_risen, total_split, total_risen, total_removed, Closes, deletes_at, vanishes_at, waits_split}
 use Rattle.store.proofs.Laid.{length_laid}
-use Rattle.store.proofs.PageSteps.{moved, moved_front, moved_back, moved_below, length_moved}
+use Rattle.store.proofs.PageSteps.{moved, moved_front, moved_back, moved_below}
 
 pub paged_roomy : (n : ℕ) → n ≤ paged_room n
 paged_roomy n = omega arith

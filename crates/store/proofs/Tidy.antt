@@ -1,12 +1,12 @@
 -- Directories with lawful entries and no number twice.
-use Rattle.std.proofs.Common.{◌≡◌, ℕ, zero, suc, ◌+◌, ◌-◌, ◌<◌, ◌≤◌, Bool, true, false, cond, not, ◌&&◌, ◌||◌, eqb, ltb, leb, List, [], ◌∷◌, ◌++◌, length, get_or, take, drop, set, sym, refl, ap, ◌∙◌, subst, add-one, arith, rules}
+use Rattle.std.proofs.Common.{◌≡◌, ℕ, suc, ◌<◌, true, false, not, ◌&&◌, eqb, leb, List, [], ◌∷◌, ◌++◌, length, get_or, take, drop, sym, refl, ap, ◌∙◌, add-one, arith}
 use Rattle.std.proofs.lemmas.Bool.Decides.{nat_tests}
-use Rattle.std.proofs.lemmas.Bool.{or_parts, and_parts, not-true, leb-true}
+use Rattle.std.proofs.lemmas.Bool.{or_parts, and_parts, not-true}
 use Rattle.std.proofs.lemmas.List.{drop_more, take-append-drop}
 use Rattle.store.specs.declared.directory.Entry.{Entry}
 use Rattle.store.specs.Calls.{lawful_length}
-use Rattle.store.specs.Entries.{total, waits, named, stored, tidy, risen}
-use Rattle.store.proofs.Entered.{named_append, total_append, waits_append}
+use Rattle.store.specs.Entries.{named, tidy, risen}
+use Rattle.store.proofs.Entered.{named_append}
 
 -- a directory around its entry i
 pub split_at : (es : List Entry) (i : ℕ) (d : Entry) → i < length es → es ≡ take i es ++ get_or es i d ∷ drop (suc i) es

@@ -1,12 +1,12 @@
 -- What the calls of a store do to what it means.
-use Rattle.std.specs.Prelude.{◌≡◌, ℕ, ◌+◌, ◌-◌, ◌<◌, ◌≤◌, Bool, true, false, cond, ◌&&◌, List, [], ◌∷◌, ◌++◌, length, get_or, take, drop, Some, None, Ok, Err, Option, Result, MatchOption, nat_le, slice_index_or}
+use Rattle.std.specs.Prelude.{◌≡◌, ℕ, ◌+◌, ◌-◌, ◌<◌, ◌≤◌, Bool, false, cond, ◌&&◌, List, [], ◌∷◌, ◌++◌, length, get_or, take, drop, Some, None, Ok, Err, Option, Result, nat_le, slice_index_or}
 use Rattle.std.specs.Option.{unwrap_or, option_map, ok_or}
 use Rattle.std.specs.List.{remove}
 use Rattle.store.specs.declared.fault.StoreFault.{StoreFault}
 use Rattle.store.specs.declared.fault.StoreFault.TheVariants.{Length, Taken, Crowded, Full, Absent, PastEnd}
 use Rattle.store.specs.declared.fault.MakeFault.{MakeFault}
 use Rattle.store.specs.declared.fault.MakeFault.TheVariants.{Range, Memory}
-use Rattle.store.specs.Views.{Object, nothing, StoreView, holding, has, bytes_of, place, place_all, without, next_from, load, taken, chosen, bits}
+use Rattle.store.specs.Views.{nothing, StoreView, holding, has, bytes_of, place, place_all, without, load, taken, chosen, bits}
 
 -- The number that a refusal is known by.
 abbrev pub fault_number : StoreFault → ℕ

@@ -1,7 +1,7 @@
 -- A directory's entries over an area in which their objects lie one after another.
-use Rattle.std.specs.Prelude.{◌≡◌, ℕ, zero, suc, ◌+◌, ◌<◌, ◌≤◌, Bool, true, false, cond, not, ◌&&◌, ◌||◌, List, [], ◌∷◌, ◌++◌, length, take, drop, Some, None, Ok, Err, Option, Result, ◌==◌, nat_le, slice_index_or}
+use Rattle.std.specs.Prelude.{◌≡◌, ℕ, ◌+◌, ◌<◌, ◌≤◌, Bool, true, false, cond, not, ◌&&◌, ◌||◌, List, [], ◌∷◌, length, take, drop, Some, None, Ok, Err, Option, Result, ◌==◌, nat_le, slice_index_or}
 use Rattle.store.specs.declared.directory.Entry.{Entry}
-use Rattle.store.specs.Views.{Object, lower}
+use Rattle.store.specs.Views.{lower}
 use Rattle.store.specs.declared.fault.StoreFault.{StoreFault}
 use Rattle.store.specs.declared.fault.StoreFault.TheVariants.{Length, Taken, Crowded, Full, Absent, PastEnd}
 use Rattle.store.specs.Calls.{lawful_length}

@@ -1,5 +1,5 @@
 -- A directory's items in put order, and what they mean.
-use Rattle.std.specs.Prelude.{◌≡◌, ℕ, ◌+◌, Bool, true, false, cond, List, [], ◌∷◌, ◌++◌}
+use Rattle.std.specs.Prelude.{ℕ, Bool, cond, List, [], ◌∷◌}
 use Rattle.store.specs.Views.{Object, StoreView, place}
 
 -- An object with whether it has landed.

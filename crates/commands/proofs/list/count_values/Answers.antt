@@ -1,4 +1,4 @@
-use Rattle.std.proofs.Common.{◌≡◌, ◌+◌, ◌<◌, length, drop, ap, arith, rules}
+use Rattle.std.proofs.Common.{◌+◌, ◌<◌, length, drop, ap, arith, rules}
 use Rattle.commands.specs.Values.{cells}
 use Rattle.commands.proofs.Valued.{values_cells, cells_space, cells_more, cells_end}
 use Rattle.commands.proofs.list.count_values.Goals as goal

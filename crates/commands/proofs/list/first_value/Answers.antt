@@ -1,5 +1,5 @@
 use Rattle.std.proofs.Common.{◌≡◌, ◌+◌, ◌-◌, ◌*◌, ◌<◌, length, get_or, drop, Some, sym, ap, ◌∙◌, subst, arith, rules}
-use Rattle.commands.specs.Values.{values, values_on, NoByte}
+use Rattle.commands.specs.Values.{values_on, NoByte}
 use Rattle.commands.proofs.Valued.{values_begin, value_more, value_space, value_end, value_high}
 use Rattle.commands.proofs.list.first_value.Goals as goal
 use Rattle.commands.proofs.list.first_value.Goals.{then-loop-i-test+else-text-i-ne32, else-loop-i-test}

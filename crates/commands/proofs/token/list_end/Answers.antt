@@ -1,4 +1,4 @@
-use Rattle.std.proofs.Common.{◌≡◌, ◌+◌, ◌-◌, ◌<◌, length, drop, sym, ap, ◌∙◌, arith, rules}
+use Rattle.std.proofs.Common.{◌≡◌, ◌+◌, ◌-◌, length, drop, sym, ap, ◌∙◌, arith, rules}
 use Rattle.commands.specs.Elements.{elements}
 use Rattle.commands.proofs.Turns.{turn_none, turn_closes, turn_stops, turn_goes, turn_ends}
 use Rattle.commands.proofs.token.list_end.Goals as goal

@@ -1,4 +1,4 @@
-use Rattle.std.proofs.Common.{arith, rules}
+use Rattle.std.proofs.Common.{rules}
 use Rattle.commands.proofs.Turns.{run_more, run_stop, run_end}
 use Rattle.commands.proofs.token.word_len.Goals as goal
 

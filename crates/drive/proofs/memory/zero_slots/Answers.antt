@@ -1,4 +1,4 @@
-use Rattle.std.proofs.Common.{◌≡◌, [], ◌∷◌, ◌++◌, replicate, sym, ap, ◌∙◌, arith, rules}
+use Rattle.std.proofs.Common.{[], ◌∷◌, ◌++◌, ap, ◌∙◌, arith}
 use Rattle.drive.specs.Views.{zero_slot}
 use Rattle.std.proofs.lemmas.List.{replicate_more}
 use Rattle.drive.proofs.memory.zero_slots.Goals as goal

@@ -1,4 +1,4 @@
-use Rattle.std.proofs.Common.{◌≡◌, ap, ◌∙◌, arith}
+use Rattle.std.proofs.Common.{◌∙◌, arith}
 use Rattle.extents.proofs.Appending.{end_none, end_follows}
 use Rattle.extents.proofs.table.extends.Goals as goal
 

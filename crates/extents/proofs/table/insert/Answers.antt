@@ -1,4 +1,4 @@
-use Rattle.std.proofs.Common.{◌≡◌, ℕ, ◌+◌, ◌-◌, ◌≤◌, ◌∷◌, ◌++◌, length, take, drop, sym, ap, ◌∙◌, arith}
+use Rattle.std.proofs.Common.{ℕ, ◌+◌, ◌≤◌, ◌∷◌, ◌++◌, length, take, drop, ap, ◌∙◌, arith}
 use Rattle.extents.specs.Steps.{listed}
 use Rattle.extents.proofs.Assembly.{right_short, upto_within, middle_short, left_room, new_is, new_table, new_range, new_targets}
 use Rattle.extents.proofs.table.insert.Goals as goal

@@ -1,4 +1,4 @@
-use Rattle.std.proofs.Common.{◌≡◌, ◌+◌, ◌-◌, ◌^◌, refl, ap, ◌∙◌}
+use Rattle.std.proofs.Common.{◌-◌, ◌^◌, refl, ◌∙◌}
 use Rattle.extents.proofs.Found.{found_none, found_later, found_target}
 use Rattle.extents.proofs.table.lookup.Goals as goal
 use Rattle.extents.proofs.table.lookup.Goals.{then-i-s+else-e-block, else-i-s}

@@ -1,4 +1,4 @@
-use Rattle.std.proofs.Common.{◌≡◌, ◌-◌, drop, sym, refl, ap, ◌∙◌, arith}
+use Rattle.std.proofs.Common.{◌≡◌, ◌-◌, drop, refl, ap, ◌∙◌, arith}
 use lib.Seq.{paste}
 use Rattle.extents.proofs.Splice.{pasted_same}
 use Rattle.extents.proofs.table.shift.Goals as goal

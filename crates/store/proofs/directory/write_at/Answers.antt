@@ -1,4 +1,4 @@
-use Rattle.std.proofs.Common.{refl, rules}
+use Rattle.std.proofs.Common.{refl}
 use Rattle.store.proofs.Areas.{written}
 use Rattle.store.proofs.directory.write_at.Goals as goal
 

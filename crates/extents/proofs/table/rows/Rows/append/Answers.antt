@@ -1,4 +1,4 @@
-use Rattle.std.proofs.Common.{◌≡◌, ℕ, ◌+◌, ◌<◌, ◌≤◌, true, cond, [], ◌∷◌, ◌++◌, Some, None, vec_items, sym, refl, ap, ◌∙◌, arith, rules}
+use Rattle.std.proofs.Common.{◌≡◌, true, cond, [], ◌∷◌, ◌++◌, Some, None, vec_items, sym, refl, ap, ◌∙◌, arith}
 use Rattle.extents.specs.declared.table.rows.Rows.{Rows}
 use Rattle.extents.specs.declared.fault.MapFault.TheVariants.{Disorder}
 use Rattle.extents.specs.Map.{is_table, all_in_range}

@@ -1,6 +1,5 @@
-use Rattle.std.proofs.Common.{◌≡◌, ℕ, ◌+◌, ◌-◌, ◌^◌, ◌<◌, ◌≤◌, true, length, take, vec_items, vec_len, vec_capacity, sym, refl, ap, ◌∙◌, subst, arith}
+use Rattle.std.proofs.Common.{◌≡◌, ◌-◌, ◌^◌, true, length, take, vec_items, vec_len, refl, ap, ◌∙◌, arith}
 use Rattle.std.proofs.lemmas.List.{with_items_is}
-use Rattle.extents.specs.declared.extent.Extent.{Extent}
 use Rattle.extents.specs.Map.{is_table, all_in_range, target_at}
 use Rattle.extents.specs.declared.table.rows.Rows.{Rows}
 use Rattle.extents.specs.Rows.{table_of}

@@ -1,4 +1,4 @@
-use Rattle.std.proofs.Common.{◌≡◌, ◌-◌, ◌^◌, ap, ◌∙◌}
+use Rattle.std.proofs.Common.{◌-◌, ◌^◌, ap, ◌∙◌}
 use Rattle.extents.specs.Map.{is_table, all_in_range}
 use Rattle.extents.proofs.Rooms.{sound_table, sound_widest}
 use Rattle.extents.proofs.table.rows.Rows.lookup.Goals as goal

@@ -1,4 +1,4 @@
-use Rattle.std.proofs.Common.{◌<◌, ◌≤◌, vec_items, vec_len, vec_capacity, sym, refl, ◌∙◌, arith}
+use Rattle.std.proofs.Common.{vec_len, refl, arith}
 use Rattle.store.proofs.PackedMoves.{puttable, packed_sums_push, packed_sums_same, packed_area_same, packed_put}
 use Rattle.store.proofs.Admission.{listed_push}
 use Rattle.store.proofs.directory.packed.PackedStore.append.Goals as goal

@@ -1,10 +1,9 @@
-use Rattle.std.proofs.Common.{◌≡◌, ℕ, ◌+◌, ◌-◌, ◌<◌, ◌≤◌, length, take, Some, None, vec_items, vec_len, sym, refl, ap, ◌∙◌, subst, arith}
-use Rattle.store.specs.Entries.{Found, Oldest, total, stored, waits, lowest}
+use Rattle.std.proofs.Common.{Some, None, vec_items, vec_len, refl, ap, ◌∙◌, subst}
+use Rattle.store.specs.Entries.{Found}
 use Rattle.store.specs.Calls.{deleting}
 use Rattle.store.specs.Packed.{packed}
 use Rattle.store.specs.PackedSound.{packed_room, packed_weight}
 use Rattle.store.proofs.PackedMoves.{packed_roomy}
-use Rattle.store.proofs.Changes.{here}
 use Rattle.store.proofs.Answered.{delete_absent, delete_found}
 use Rattle.store.proofs.directory.packed.PackedStore.discard.Goals as goal
 

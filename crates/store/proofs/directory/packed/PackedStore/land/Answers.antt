@@ -1,4 +1,4 @@
-use Rattle.std.proofs.Common.{◌<◌, ◌≤◌, length, vec_items, vec_len, vec_capacity, refl, arith}
+use Rattle.std.proofs.Common.{◌<◌, length, vec_items, vec_len, refl, arith}
 use Rattle.store.specs.PackedSound.{packed_room, packed_weight}
 use Rattle.store.proofs.Changes.{some_waits, listed_risen, lands_at}
 use Rattle.store.proofs.PackedMoves.{packed_roomy, packed_sums_risen, packed_area_same}

@@ -1,9 +1,7 @@
-use Rattle.std.proofs.Common.{◌≡◌, ℕ, ◌+◌, ◌-◌, ◌<◌, ◌≤◌, length, take, Some, None, vec_items, vec_len, sym, refl, ap, ◌∙◌, subst, arith}
-use Rattle.store.specs.Entries.{Found, Oldest, total, stored, waits, lowest}
-use Rattle.store.specs.Calls.{Lands}
+use Rattle.std.proofs.Common.{None, vec_items, vec_len, refl, subst}
+use Rattle.store.specs.Entries.{Oldest}
 use Rattle.store.specs.PackedSound.{packed_room, packed_weight}
 use Rattle.store.proofs.PackedMoves.{packed_roomy}
-use Rattle.store.proofs.Changes.{here}
 use Rattle.store.proofs.Answered.{none_pending}
 use Rattle.store.proofs.directory.packed.PackedStore.land_oldest.Goals as goal
 

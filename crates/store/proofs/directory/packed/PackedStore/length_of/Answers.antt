@@ -1,6 +1,5 @@
-use Rattle.std.proofs.Common.{◌≡◌, ℕ, ◌+◌, ◌-◌, ◌<◌, ◌≤◌, length, take, Some, None, vec_items, vec_len, sym, refl, ap, ◌∙◌, subst, arith}
-use Rattle.store.specs.Entries.{Found, Oldest, total, stored, waits, lowest}
-use Rattle.store.specs.Calls.{Lands}
+use Rattle.std.proofs.Common.{Some, None, vec_items, vec_len, ap, ◌∙◌, subst, arith}
+use Rattle.store.specs.Entries.{Found}
 use Rattle.store.specs.PackedSound.{packed_room, packed_weight}
 use Rattle.store.proofs.PackedMoves.{packed_roomy}
 use Rattle.store.proofs.Changes.{here}

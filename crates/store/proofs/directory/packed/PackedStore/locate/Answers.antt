@@ -1,10 +1,7 @@
-use Rattle.std.proofs.Common.{◌≡◌, ℕ, ◌+◌, ◌-◌, ◌<◌, ◌≤◌, length, take, drop, Some, None, Ok, Err, vec_items, vec_len, sym, refl, ap, ◌∙◌, subst, arith}
-use Rattle.store.specs.Entries.{Found, PartFound, Oldest, total, stored, waits, lowest}
-use Rattle.store.specs.Calls.{Lands, deleting}
-use Rattle.store.specs.Packed.{packed}
+use Rattle.std.proofs.Common.{◌≡◌, ◌+◌, ◌≤◌, length, take, drop, Ok, Err, vec_items, vec_len, sym, ap, ◌∙◌, subst, arith}
+use Rattle.store.specs.Entries.{PartFound, total}
 use Rattle.store.specs.PackedSound.{packed_room, packed_weight}
 use Rattle.store.proofs.PackedMoves.{packed_roomy}
-use Rattle.store.proofs.Changes.{here}
 use Rattle.store.proofs.Answered.{part_refused, part_at, get_granted, lies_within}
 use Rattle.store.proofs.directory.packed.PackedStore.locate.Goals as goal
 

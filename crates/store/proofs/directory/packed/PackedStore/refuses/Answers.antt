@@ -1,4 +1,4 @@
-use Rattle.std.proofs.Common.{vec_items, vec_len, vec_capacity, rules}
+use Rattle.std.proofs.Common.{vec_items, vec_len}
 use Rattle.store.proofs.PackedMoves.{packed_refusal}
 use Rattle.store.proofs.directory.packed.PackedStore.refuses.Goals as goal
 

@@ -1,7 +1,7 @@
-use Rattle.std.proofs.Common.{◌≡◌, ◌+◌, ◌-◌, ◌<◌, ◌≤◌, [], ◌∷◌, length, take, vec_items, vec_len, vec_capacity, sym, refl, ap, ◌∙◌, arith}
+use Rattle.std.proofs.Common.{◌<◌, [], ◌∷◌, length, take, vec_items, vec_len, ap, ◌∙◌, arith}
 use Rattle.store.specs.Entries.{waits, total}
 use Rattle.store.specs.PackedSound.{packed_room}
-use Rattle.store.proofs.Changes.{here, listed_removed, waits_split}
+use Rattle.store.proofs.Changes.{listed_removed}
 use Rattle.store.proofs.PackedMoves.{packed_lies, packed_sums_removed, packed_sums_same, packed_area_same, packed_taken_out}
 use Rattle.store.proofs.Admission.{waits_here}
 use Rattle.store.proofs.directory.packed.PackedStore.remove.Goals as goal

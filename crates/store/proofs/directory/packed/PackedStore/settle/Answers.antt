@@ -1,10 +1,8 @@
-use Rattle.std.proofs.Common.{◌≡◌, ℕ, ◌+◌, ◌-◌, ◌<◌, ◌≤◌, length, take, Some, None, Ok, Err, vec_items, vec_len, sym, refl, ap, ◌∙◌, subst, arith}
-use Rattle.store.specs.Entries.{Found, PartFound, Oldest, total, stored, waits, lowest}
-use Rattle.store.specs.Calls.{Lands, deleting}
+use Rattle.std.proofs.Common.{length, Some, None, vec_items, vec_len, ap, subst}
+use Rattle.store.specs.Entries.{Oldest}
 use Rattle.store.specs.Packed.{packed}
 use Rattle.store.specs.PackedSound.{packed_room, packed_weight}
 use Rattle.store.proofs.PackedMoves.{packed_roomy}
-use Rattle.store.proofs.Changes.{here}
 use Rattle.store.proofs.Cuts.{cut_none, cut_to, cut_on_lands, cut_on_loses}
 use Rattle.store.proofs.Answered.{none_pending, some_pending}
 use Rattle.store.proofs.directory.packed.PackedStore.settle.Goals as goal

@@ -1,13 +1,8 @@
-use Rattle.std.proofs.Common.{◌≡◌, ℕ, ◌+◌, ◌-◌, ◌*◌, ◌<◌, ◌≤◌, [], ◌∷◌, ◌++◌, length, take, drop, Some, None, Ok, Err, vec_items, vec_len, vec_capacity, sym, refl, ap, ◌∙◌, subst, arith}
-use lib.Seq.{paste}
-use Rattle.store.specs.Entries.{Found, PartFound, Oldest, Newest, total, waits}
-use Rattle.store.specs.Paged.{paged}
-use Rattle.store.specs.PagedSound.{paged_room, pages, laid, below, GivenOnce}
-use Rattle.store.proofs.Changes.{here, some_waits, listed_risen, lands_at, listed_removed}
-use Rattle.store.proofs.Admission.{listed_push, waits_here}
-use Rattle.store.proofs.Answered.{none_pending, part_refused, part_at, get_granted, lies_within}
-use Rattle.store.proofs.PageSteps.{moved_once}
-use Rattle.store.proofs.PagedMoves.{paged_roomy, bytes, sizes, paged_refusal, paged_puttable, paged_sums_push, paged_area_same, paged_put, paged_sums_risen, paged_stands, paged_sums_removed, paged_area_moved, paged_taken_out, newest_last, room_total}
+use Rattle.std.proofs.Common.{◌≡◌, ◌+◌, ◌*◌, length, take, drop, Ok, Err, vec_items, vec_len, sym, refl, ap, ◌∙◌, subst, arith}
+use Rattle.store.specs.Entries.{PartFound, total}
+use Rattle.store.specs.PagedSound.{paged_room, pages}
+use Rattle.store.proofs.Answered.{part_refused, part_at, get_granted, lies_within}
+use Rattle.store.proofs.PagedMoves.{paged_roomy, bytes, sizes, room_total}
 use Rattle.store.proofs.directory.paged.PagedStore.copy_out.Goals as goal
 
 pub returns-in-Err : goal.returns-in-Err

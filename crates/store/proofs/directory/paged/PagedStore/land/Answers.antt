@@ -1,13 +1,7 @@
-use Rattle.std.proofs.Common.{◌≡◌, ℕ, ◌+◌, ◌-◌, ◌*◌, ◌<◌, ◌≤◌, [], ◌∷◌, ◌++◌, length, take, drop, Some, None, Ok, Err, vec_items, vec_len, vec_capacity, sym, refl, ap, ◌∙◌, subst, arith}
-use lib.Seq.{paste}
-use Rattle.store.specs.Entries.{Found, PartFound, Oldest, Newest, total, waits}
-use Rattle.store.specs.Paged.{paged}
-use Rattle.store.specs.PagedSound.{paged_room, pages, laid, below, GivenOnce}
-use Rattle.store.proofs.Changes.{here, some_waits, listed_risen, lands_at, listed_removed}
-use Rattle.store.proofs.Admission.{listed_push, waits_here}
-use Rattle.store.proofs.Answered.{none_pending, part_refused, part_at, get_granted, lies_within}
-use Rattle.store.proofs.PageSteps.{moved_once}
-use Rattle.store.proofs.PagedMoves.{paged_roomy, bytes, sizes, paged_refusal, paged_puttable, paged_sums_push, paged_area_same, paged_put, paged_sums_risen, paged_stands, paged_sums_removed, paged_area_moved, paged_taken_out, newest_last}
+use Rattle.std.proofs.Common.{◌<◌, length, vec_items, vec_len, refl, arith}
+use Rattle.store.specs.PagedSound.{paged_room, pages}
+use Rattle.store.proofs.Changes.{some_waits, listed_risen, lands_at}
+use Rattle.store.proofs.PagedMoves.{paged_roomy, bytes, paged_area_same, paged_sums_risen}
 use Rattle.store.proofs.directory.paged.PagedStore.land.Goals as goal
 
 pub overflow_sub-self : goal.overflow_sub-self

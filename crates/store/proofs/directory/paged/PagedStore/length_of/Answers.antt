@@ -1,6 +1,5 @@
-use Rattle.std.proofs.Common.{◌≡◌, ℕ, ◌+◌, ◌-◌, ◌<◌, ◌≤◌, length, take, Some, None, vec_items, vec_len, sym, refl, ap, ◌∙◌, subst, arith}
-use Rattle.store.specs.Entries.{Found, Oldest, total, stored, waits, lowest}
-use Rattle.store.specs.Calls.{Lands}
+use Rattle.std.proofs.Common.{Some, None, vec_items, vec_len, ap, ◌∙◌, subst}
+use Rattle.store.specs.Entries.{Found}
 use Rattle.store.specs.PagedSound.{paged_room, pages}
 use Rattle.store.proofs.PagedMoves.{paged_roomy, bytes, sizes}
 use Rattle.store.proofs.Changes.{here}

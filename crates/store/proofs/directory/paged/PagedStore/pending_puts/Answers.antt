@@ -1,6 +1,6 @@
 use Rattle.std.proofs.Common.{vec_items, vec_len}
 use Rattle.store.specs.PagedSound.{paged_room, pages}
-use Rattle.store.proofs.PagedMoves.{paged_roomy, bytes, sizes}
+use Rattle.store.proofs.PagedMoves.{paged_roomy, bytes}
 use Rattle.store.proofs.Answered.{waits_view}
 use Rattle.store.proofs.directory.paged.PagedStore.pending_puts.Goals as goal
 

@@ -1,4 +1,4 @@
-use Rattle.std.proofs.Common.{◌≡◌, ◌+◌, ◌-◌, ◌*◌, ◌/◌, ◌%◌, ◌<◌, ◌≤◌, length, get_or, sym, refl, ap, ◌∙◌, arith}
+use Rattle.std.proofs.Common.{◌+◌, ◌/◌, ◌<◌, length, arith}
 use Rattle.store.proofs.Laid.{below_at}
 use Rattle.store.proofs.PageSteps.{read_step, read_end}
 use Rattle.store.proofs.directory.paged.blocks.read_pages.Goals as goal
