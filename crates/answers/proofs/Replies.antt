@@ -1,10 +1,10 @@
 -- Answer lines. Assumes nothing.
-use Rattle.std.proofs.Common.{◌≡◌, ℕ, ◌+◌, ◌-◌, ◌^◌, ◌<◌, Bool, true, false, List, [], ◌∷◌, ◌++◌, map, length, get_or, take, drop, decimal, sym, refl, ap, ◌∙◌, subst, arith}
+use Rattle.std.proofs.Common.{◌≡◌, ℕ, ◌+◌, ◌-◌, ◌^◌, ◌<◌, Bool, true, false, List, [], ◌∷◌, ◌++◌, map, length, get_or, take, drop, decimal, sym, refl, ap, ◌∙◌, arith}
 use Rattle.std.proofs.lemmas.List.{take_more, take_all, map_push, append-nil, append_assoc}
 use Rattle.commands.specs.Grammar.{spaced}
 use Rattle.std.specs.List.{AllByRecursion as All}
 use Rattle.commands.specs.Numbers.{number_in}
-use Rattle.answers.specs.Answers.{items_text, verdict, replied, OneAnswer}
+use Rattle.answers.specs.Answers.{items_text, verdict, OneAnswer}
 use Rattle.commands.proofs.Figures.{Stops, some_same, number_back}
 use Rattle.commands.proofs.Listings.{spaced_end}
 

@@ -1,12 +1,11 @@
 -- The worked example of a torn log.
-use Rattle.std.proofs.Common.{◌≡◌, ℕ, zero, suc, ◌+◌, ◌<◌, List, [], ◌∷◌, sym, refl, ap, ◌∙◌, arith}
+use Rattle.std.proofs.Common.{◌≡◌, ℕ, zero, suc, ◌+◌, ◌<◌, List, [], sym, refl, ap, ◌∙◌, arith}
 use Rattle.endian.specs.Fields.{unle}
 use Rattle.drive.specs.Views.{zero_slot}
-use Rattle.journal.specs.Layout.{head_of, FitsHead, slot}
-use Rattle.journal.specs.Writes.{Holds, Stands, Scan, slot_at}
+use Rattle.journal.specs.Layout.{head_of, slot}
+use Rattle.journal.specs.Writes.{Holds, Stands, Scan}
 use Rattle.journal.specs.Fills.{nth_head}
-use Rattle.journal.specs.Example.{torn_log, whole_one, TornLog}
-use Rattle.journal.specs.declared.record.Head.{Head}
+use Rattle.journal.specs.Example.{torn_log, TornLog}
 use Rattle.journal.proofs.Layouts.{head_back}
 
 back : (w a n i : ℕ) (b : List ℕ) → w + i < 9 → a + i < 9 → i < 9 → n < 9 → head_of (slot (nth_head w a n i) b) ≡ nth_head w a n i

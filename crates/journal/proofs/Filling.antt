@@ -1,12 +1,12 @@
 -- Writing a write's records into their slots.
-use Rattle.std.proofs.Common.{◌≡◌, ℕ, zero, suc, ◌+◌, ◌-◌, ◌*◌, ◌/◌, ◌%◌, ◌^◌, ◌<◌, ◌≤◌, Bool, true, false, cond, not, ◌&&◌, eqb, ltb, leb, ◌≢◌, List, [], ◌∷◌, length, get_or, take, drop, set, sym, refl, ap, ◌∙◌, subst, ⊎_elim, add-mul, add-one, arith}
+use Rattle.std.proofs.Common.{◌≡◌, ℕ, zero, suc, ◌+◌, ◌-◌, ◌*◌, ◌/◌, ◌%◌, ◌^◌, ◌<◌, ◌≤◌, Bool, true, false, cond, not, ◌&&◌, eqb, ltb, leb, ◌≢◌, List, length, get_or, take, drop, set, sym, refl, ap, ◌∙◌, subst, ⊎_elim, add-mul, add-one, arith}
 use Rattle.std.proofs.lemmas.List.{length-set, get_or-set_same, get_or-set_other}
 use Rattle.std.proofs.lemmas.Bool.{cases_lt, and_parts, not-false, leb-true, ltb-false}
 use Rattle.std.proofs.lemmas.Nat.{mod_below, div-add-mod', mul-le}
 use Rattle.drive.specs.Views.{Slot, DriveView, Wrote, slot_count, zero_slot}
-use Rattle.journal.specs.Layout.{block_bytes, slot, head_of, FitsHead}
-use Rattle.journal.specs.Writes.{Holds, Stands, last_record, most_blocks, slot_at}
-use Rattle.journal.specs.Fills.{nth_head, nth_block, nth_slot, written, Takes, Filled, blocks_in, whole_write, write_refusal, LeftBy, WritesStand}
+use Rattle.journal.specs.Layout.{block_bytes, slot, head_of}
+use Rattle.journal.specs.Writes.{last_record, most_blocks, slot_at}
+use Rattle.journal.specs.Fills.{nth_head, nth_block, nth_slot, written, Takes, Filled, blocks_in, whole_write, LeftBy, WritesStand}
 use Rattle.journal.specs.declared.record.Head.{Head}
 use Rattle.journal.proofs.Layouts.{head_back}
 

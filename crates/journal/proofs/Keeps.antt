@@ -1,9 +1,9 @@
 -- What holds of every slot of a drive, current and safe, through writes.
-use Rattle.std.proofs.Common.{◌≡◌, ℕ, zero, suc, ◌+◌, ◌%◌, ◌<◌, ◌≤◌, Bool, true, false, cond, ◌≢◌, List, length, get_or, set, MatchBool, sym, refl, ap, ◌∙◌, subst, ⊎_elim, arith}
+use Rattle.std.proofs.Common.{◌≡◌, ℕ, zero, suc, ◌+◌, ◌%◌, ◌<◌, Bool, true, false, List, length, get_or, set, MatchBool, sym, ap, ◌∙◌, subst, ⊎_elim, arith}
 use Rattle.std.proofs.lemmas.List.{length-set, get_or-set_same, get_or-set_other}
 use Rattle.std.proofs.lemmas.List.FromFn.{get_or-map-range_with_len, length-map-range_with_len}
 use Rattle.std.proofs.lemmas.Bool.{cases_eq, cond_both}
-use Rattle.drive.specs.Views.{Slot, DriveView, MadeSafe, Wrote, mixed, slot_count, zero_slot}
+use Rattle.drive.specs.Views.{Slot, DriveView, Wrote, slot_count, zero_slot}
 use Rattle.drive.proofs.Mixes.{get_or_mixed}
 use Rattle.drive.proofs.Areas.{length_mixed}
 use Rattle.journal.specs.Fills.{Takes, nth_slot}

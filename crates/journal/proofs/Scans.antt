@@ -1,10 +1,10 @@
 -- What a scan takes is settled by the slots.
-use Rattle.std.proofs.Common.{◌≡◌, ℕ, zero, suc, ◌+◌, ◌-◌, ◌%◌, ◌<◌, ◌≤◌, min, List, [], ◌∷◌, ◌++◌, length, get_or, sym, refl, ap, ◌∙◌, subst, ⊎_elim, add-zero, add_assoc, arith}
+use Rattle.std.proofs.Common.{◌≡◌, ℕ, ◌+◌, ◌-◌, ◌%◌, ◌<◌, ◌≤◌, min, List, [], ◌∷◌, length, get_or, sym, refl, ap, ◌∙◌, subst, ⊎_elim, add-zero, add_assoc, arith}
 use native.Mathlib.Nat.{add-mod_right}
 use Rattle.std.proofs.lemmas.Bool.{cases_lt}
 use Rattle.drive.specs.Views.{Slot, zero_slot}
 use Rattle.journal.specs.Layout.{head_of}
-use Rattle.journal.specs.Writes.{slot_at, Holds, Stands, Scan, ScanMost, ScansStand, records}
+use Rattle.journal.specs.Writes.{slot_at, Stands, Scan, ScanMost, ScansStand, records}
 use Rattle.journal.specs.declared.span.Span.{Span}
 
 -- every record of a run lies in its slot

@@ -1,10 +1,10 @@
 -- What the scan has taken so far.
-use Rattle.std.proofs.Common.{◌≡◌, ℕ, ◌+◌, ◌-◌, ◌<◌, ◌≤◌, min, List, [], ◌∷◌, ◌++◌, length, sym, refl, ap, ◌∙◌, subst, ⊎_elim, append_assoc, append-nil, add-zero, add_assoc, arith}
+use Rattle.std.proofs.Common.{◌≡◌, ℕ, ◌+◌, ◌-◌, ◌<◌, ◌≤◌, min, List, [], ◌∷◌, ◌++◌, length, sym, ap, ◌∙◌, subst, ⊎_elim, append_assoc, append-nil, add-zero, add_assoc, arith}
 use Rattle.std.proofs.lemmas.List.{length_push}
 use Rattle.std.proofs.lemmas.Bool.{cases_lt}
 use Rattle.drive.specs.Views.{Slot}
 use Rattle.journal.specs.Layout.{head_of}
-use Rattle.journal.specs.Writes.{slot_at, Holds, Stands, ScanMost, records, most_blocks}
+use Rattle.journal.specs.Writes.{slot_at, Holds, Stands, ScanMost, records}
 use Rattle.journal.specs.Taken.{Begins}
 use Rattle.journal.specs.declared.span.Span.{Span}
 use Rattle.journal.specs.declared.record.Head.{Head}

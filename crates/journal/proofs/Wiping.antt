@@ -1,5 +1,5 @@
 -- Zeroing every slot that holds no record of a run.
-use Rattle.std.proofs.Common.{◌≡◌, ℕ, suc, ◌+◌, ◌<◌, ◌≤◌, Bool, true, false, cond, ◌≢◌, List, [], length, get_or, set, Ok, Err, MatchBool, Result, sym, refl, ap, ◌∙◌, subst, ⊎_elim, add-one, arith}
+use Rattle.std.proofs.Common.{◌≡◌, ℕ, suc, ◌+◌, ◌<◌, ◌≤◌, Bool, true, false, cond, ◌≢◌, length, get_or, Ok, Err, MatchBool, Result, sym, refl, ap, ◌∙◌, subst, ⊎_elim, add-one, arith}
 use Rattle.std.proofs.lemmas.List.{length-set, get_or-set_same, get_or-set_other}
 use Rattle.std.proofs.lemmas.List.FromFn.{fill_by_all}
 use Rattle.std.proofs.lemmas.Bool.{cases_lt}
@@ -7,7 +7,7 @@ use Rattle.drive.specs.Views.{Slot, DriveView, Wrote, Write, Read, slot_count, z
 use Rattle.drive.specs.declared.DriveFault.{DriveFault}
 use Rattle.journal.proofs.Reading.{read_there}
 use Rattle.journal.specs.Layout.{head_of}
-use Rattle.journal.specs.Wipes.{belongs, holds_one, left_at, wiped, Wipes, Wiped}
+use Rattle.journal.specs.Wipes.{belongs, holds_one, left_at, Wipes, Wiped}
 
 -- the first k slots are wiped, and the others as they were
 pub record WipedUpto (v : DriveView) (from upto k : ℕ) (t : DriveView) : Type 0 where

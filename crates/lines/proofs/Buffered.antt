@@ -1,10 +1,9 @@
 -- A buffer holds the first 256 bytes of a line, and these tell enough. Assumes nothing.
-use Rattle.std.proofs.Common.{◌≡◌, ℕ, zero, suc, ◌+◌, ◌-◌, ◌<◌, ◌≤◌, Bool, true, false, cond, leb, ◌⊎◌, List, [], ◌∷◌, ◌++◌, length, take, set, Ok, Err, Result, sym, refl, ap, ◌∙◌, subst, inl, inr, arith}
+use Rattle.std.proofs.Common.{◌≡◌, ℕ, zero, suc, ◌+◌, ◌-◌, ◌<◌, ◌≤◌, cond, ◌⊎◌, List, [], ◌∷◌, ◌++◌, length, take, set, Ok, Err, Result, sym, refl, ap, ◌∙◌, subst, inl, inr, arith}
 use Rattle.std.proofs.lemmas.List.{append-nil, append_assoc, length_push, length-take-le, take_all, take-append-le, take_more_set}
 use Rattle.std.proofs.lemmas.Bool.{cases_lt, lt-leb}
 use Rattle.commands.specs.declared.call.Call.{Call}
 use Rattle.commands.specs.declared.call.Bad.{Bad}
-use Rattle.commands.specs.Calls.{Asked, Asks}
 use Rattle.commands.specs.Reading.{Parsed, misfit, reading, left_of}
 use Rattle.lines.specs.Buffers.{pushed, FrontTells}
 

@@ -1,5 +1,5 @@
 -- What a line buffer holds. Assumes nothing.
-use Rattle.std.specs.Prelude.{◌≡◌, ℕ, List, [], ◌∷◌, ◌++◌, take, Result}
+use Rattle.std.specs.Prelude.{ℕ, List, [], ◌∷◌, ◌++◌, take, Result}
 use Rattle.lines.specs.declared.buffer.LineBuffer.{LineBuffer}
 use Rattle.commands.specs.declared.call.Call.{Call}
 use Rattle.commands.specs.declared.call.Bad.{Bad}

@@ -1,5 +1,5 @@
 -- What the words of a line ask for. Assumes nothing.
-use Rattle.std.specs.Prelude.{ℕ, Bool, cond, List, is_some, Some, None, codes, Option}
+use Rattle.std.specs.Prelude.{ℕ, cond, List, is_some, Some, None, codes, Option}
 use Rattle.std.specs.Str.{bytes_eq}
 use Rattle.maptrace.specs.declared.command.Command.{Command}
 use Rattle.maptrace.specs.declared.command.Command.TheVariants.{Insert, Record, Drop, Lookup}

@@ -1,5 +1,5 @@
 -- What a command does to the two maps. Assumes nothing.
-use Rattle.std.specs.Prelude.{◌≡◌, ℕ, zero, suc, ◌+◌, Bool, cond, is_some, Ok, Err, Option, Result}
+use Rattle.std.specs.Prelude.{◌≡◌, ℕ, zero, suc, ◌+◌, cond, is_some, Ok, Err, Option, Result}
 use Rattle.extents.specs.declared.fault.MapFault.{MapFault}
 use Rattle.extents.specs.Kinds.{place, place_advanced, place_same, place_fits, recorded, record_advanced, record_same, record_fits}
 use Rattle.extents.specs.Order.{record_below}

@@ -1,22 +1,19 @@
 -- The laws of building and of writing maps. Assumes nothing.
-use Rattle.std.proofs.Common.{◌≡◌, ℕ, ◌+◌, ◌*◌, ◌^◌, ◌<◌, ◌≤◌, Bool, true, ◌&&◌, eqb, ltb, leb, List, [], ◌∷◌, ◌++◌, length, take, drop, sym, refl, ap, ◌∙◌, subst, append_assoc, append-nil, arith}
+use Rattle.std.proofs.Common.{◌≡◌, ℕ, ◌+◌, ◌*◌, ◌^◌, ◌<◌, ◌≤◌, Bool, true, ◌&&◌, eqb, ltb, leb, List, [], ◌∷◌, ◌++◌, length, take, drop, sym, refl, ap, ◌∙◌, append_assoc, append-nil, arith}
 use borrow.Rule.Slice.PartMut.{put_mid}
 use Rattle.std.specs.List.{flat_map}
 use Rattle.std.proofs.lemmas.Bool.{and_parts, and_from, leb-true, ltb-true, eqb-true, le-leb, lt-ltb, eq-eqb}
 use Rattle.std.proofs.lemmas.List.{length-append, length_push, flat_map_more}
-use Rattle.extents.specs.declared.extent.Extent.{Extent}
-use Rattle.extents.specs.declared.target.Place.{Place}
 use Rattle.extents.specs.Map.{target_at}
-use Rattle.extents.specs.Kinds.{place_advanced, place_same, place_laws}
+use Rattle.extents.specs.Kinds.{place_advanced, place_laws}
 use Rattle.extents.proofs.Tables.{one_writing}
 use Rattle.objects.specs.declared.entry.Entry.{Entry}
-use Rattle.objects.specs.declared.states.Draft.{Draft}
 use Rattle.objects.specs.declared.states.Begun.{Begun}
 use Rattle.objects.specs.declared.states.Filled.{Filled}
-use Rattle.objects.specs.Layout.{Object, carrier, checkpoint, entry_bytes, header_bytes, payload_offset, total, written}
+use Rattle.objects.specs.Layout.{checkpoint, entry_bytes, header_bytes, payload_offset, total, written}
 use Rattle.objects.specs.Rules.{every, disk_size, entry_fits, most_blocks, valid}
-use Rattle.objects.specs.Building.{entered, filling, with_block, with_entry, may_enter, may_add, may_close, draft_header, closed}
-use Rattle.objects.specs.Laws.{OneMap, Counts, HasEntries, HasPayload, built_object, Building}
+use Rattle.objects.specs.Building.{entered, with_block, may_enter, may_add, may_close, draft_header, closed}
+use Rattle.objects.specs.Laws.{OneMap, HasEntries, HasPayload, built_object, Building}
 use Rattle.objects.proofs.Writings.{checks, one_object, table_same}
 use Rattle.objects.proofs.Sound.{length_entry, length_header}
 use Rattle.objects.proofs.Puts.{grown, headed}

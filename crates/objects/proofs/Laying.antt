@@ -1,12 +1,12 @@
 -- Entries laid over a map, one after another. Assumes nothing.
-use Rattle.std.proofs.Common.{◌≡◌, ℕ, ◌+◌, ◌-◌, ◌*◌, ◌^◌, ◌<◌, ◌≤◌, Bool, true, false, cond, ◌&&◌, eqb, ltb, leb, List, [], ◌∷◌, ◌++◌, length, get_or, drop, Some, None, Ok, Err, Option, Result, sym, refl, ap, ◌∙◌, subst, arith}
-use Rattle.std.proofs.lemmas.Bool.{and_parts, leb-true, ltb-true, ne_eqb, le-ltb, lt-ltb}
+use Rattle.std.proofs.Common.{◌≡◌, ℕ, ◌+◌, ◌-◌, ◌*◌, ◌^◌, ◌<◌, ◌≤◌, Bool, true, false, cond, eqb, ltb, leb, List, [], ◌∷◌, length, get_or, drop, Some, None, Ok, Err, Option, Result, sym, refl, ap, ◌∙◌, arith}
+use Rattle.std.proofs.lemmas.Bool.{and_parts, leb-true, ne_eqb, le-ltb, lt-ltb}
 use Rattle.std.proofs.lemmas.List.{at_drop_all}
 use Rattle.extents.specs.declared.extent.Extent.{Extent}
 use Rattle.extents.specs.declared.fault.MapFault.{MapFault}
 use Rattle.extents.specs.declared.target.Place.{Place}
 use Rattle.extents.specs.declared.table.rows.Rows.{Rows}
-use Rattle.extents.specs.Map.{extent, end, covers, target_in, target_at}
+use Rattle.extents.specs.Map.{extent, covers, target_in}
 use Rattle.extents.specs.Kinds.{place, place_advanced, place_same, place_fits}
 use Rattle.extents.specs.Faults.{fault_number, extent_refusal}
 use Rattle.extents.specs.Answers.{overlaid, Inserted}

@@ -1,5 +1,5 @@
 -- Steps of the loops that check entries. Assumes nothing.
-use Rattle.std.proofs.Common.{◌≡◌, ℕ, ◌+◌, ◌*◌, ◌<◌, ◌≤◌, Bool, true, false, ◌&&◌, eqb, List, [], ◌∷◌, length, get_or, drop, sym, refl, ap, ◌∙◌, subst, arith}
+use Rattle.std.proofs.Common.{◌≡◌, ℕ, ◌+◌, ◌<◌, ◌≤◌, Bool, true, false, ◌&&◌, eqb, List, ◌∷◌, length, get_or, drop, sym, ap, ◌∙◌, arith}
 use Rattle.std.proofs.lemmas.List.{at_drop_more, at_drop_all}
 use Rattle.std.proofs.lemmas.Bool.{and_left}
 use Rattle.extents.specs.declared.extent.Extent.{Extent}
@@ -7,7 +7,7 @@ use Rattle.extents.specs.declared.target.Place.{Place}
 use Rattle.objects.specs.declared.entry.Entry.{Entry}
 use Rattle.objects.specs.Layout.{total}
 use Rattle.objects.specs.Rules.{every}
-use Rattle.objects.specs.Seen.{follows, chained, entries_sum}
+use Rattle.objects.specs.Seen.{follows, chained}
 
 -- a function of what is left, one element on
 pub left_more : {X Y : Type 0} (F : List X → Y) (xs : List X) (i : ℕ) (x : X) → i < length xs → get_or xs i x ≡ x → F (drop i xs) ≡ F (x ∷ drop (i + 1) xs)

@@ -1,13 +1,13 @@
 -- What one put after another leaves in a buffer. Assumes nothing.
-use Rattle.std.proofs.Common.{◌≡◌, ℕ, ◌+◌, ◌-◌, ◌*◌, ◌<◌, ◌≤◌, List, [], ◌∷◌, ◌++◌, length, get_or, take, drop, sym, refl, ap, ◌∙◌, subst, append_assoc, mul-le-mul_left, mul-one, mul-add, arith}
+use Rattle.std.proofs.Common.{◌≡◌, ℕ, ◌+◌, ◌-◌, ◌*◌, ◌<◌, ◌≤◌, List, [], ◌∷◌, ◌++◌, length, get_or, take, drop, sym, ap, ◌∙◌, append_assoc, mul-le-mul_left, mul-one, mul-add, arith}
 use Rattle.std.specs.List.{flat_map}
 use Rattle.objects.proofs.Lists.{length_joined}
 use lib.Seq.{take-append-add}
 use borrow.Rule.Slice.PartMut.{put_mid}
 use Rattle.std.proofs.lemmas.List.{length-append, length-take-le, length-drop, drop-drop, drop-take, drop-append-le, take_more, flat_map_more}
 use Rattle.std.proofs.lemmas.Slice.{take-put_mid, take-put_mid_below, drop-put_mid}
-use Rattle.endian.specs.Fields.{le, placed}
-use Rattle.endian.proofs.Laws.{length_le, placed_is}
+use Rattle.endian.specs.Fields.{placed}
+use Rattle.endian.proofs.Laws.{placed_is}
 
 pub length_put_mid : (at n : ℕ) (xs ys : List ℕ) → at + n ≤ length xs → length ys ≡ n → length (put_mid at n xs ys) ≡ length xs
 length_put_mid at n xs ys room long =

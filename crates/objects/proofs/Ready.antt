@@ -1,16 +1,14 @@
 -- When a checkpoint may be built, and what its puts leave. Assumes nothing.
-use Rattle.std.proofs.Common.{◌≡◌, ℕ, ◌+◌, ◌*◌, ◌^◌, ◌<◌, ◌≤◌, Bool, true, false, ◌&&◌, eqb, ltb, leb, List, [], ◌∷◌, ◌++◌, length, sym, refl, ap, ◌∙◌, subst, arith}
+use Rattle.std.proofs.Common.{◌≡◌, ℕ, ◌+◌, ◌*◌, ◌^◌, ◌<◌, ◌≤◌, Bool, true, false, ◌&&◌, ltb, leb, List, length, sym, refl, arith}
 use borrow.Rule.Slice.PartMut.{put_mid}
 use Rattle.std.specs.List.{flat_map}
-use Rattle.std.proofs.lemmas.Bool.{and_parts, and_from, leb-true, ltb-true, le-leb, lt-ltb, eq-eqb}
+use Rattle.std.proofs.lemmas.Bool.{and_parts, and_from, leb-true, le-leb, lt-ltb, eq-eqb}
 use Rattle.extents.specs.declared.extent.Extent.{Extent}
 use Rattle.extents.specs.declared.target.Place.{Place}
-use Rattle.extents.specs.Map.{is_table}
-use Rattle.extents.specs.Kinds.{place_advanced, place_same}
 use Rattle.endian.specs.Fields.{lies}
-use Rattle.objects.specs.Layout.{Object, checkpoint, header_of, header_bytes, extent_bytes, written}
-use Rattle.objects.specs.Rules.{every, disk_size, extent_fits, valid}
-use Rattle.objects.specs.Seen.{chained, no_extent}
+use Rattle.objects.specs.Layout.{checkpoint, header_of, header_bytes, extent_bytes, written}
+use Rattle.objects.specs.Rules.{disk_size, valid}
+use Rattle.objects.specs.Seen.{no_extent}
 use Rattle.objects.specs.Building.{may_checkpoint, checkpoint_ready}
 use Rattle.objects.proofs.Tables.{table_from_chain, chain_from_table, may_begin}
 use Rattle.objects.proofs.Writings.{checks}

@@ -1,19 +1,17 @@
 -- The check of bytes finds exactly the undamaged objects. Assumes nothing.
-use Rattle.std.proofs.Common.{◌≡◌, ℕ, ◌+◌, ◌*◌, ◌^◌, ◌<◌, ◌≤◌, Bool, true, false, cond, ◌&&◌, eqb, ltb, leb, ◌⊎◌, List, [], ◌∷◌, ◌++◌, length, take, drop, Ok, Err, Result, sym, refl, ap, ◌∙◌, subst, inl, inr, ⊎_elim, append-nil, arith}
+use Rattle.std.proofs.Common.{◌≡◌, ℕ, ◌+◌, ◌*◌, ◌^◌, ◌<◌, ◌≤◌, Bool, true, false, cond, ◌&&◌, eqb, ltb, leb, ◌⊎◌, List, [], ◌++◌, length, take, drop, Ok, Err, Result, sym, refl, ap, ◌∙◌, subst, inl, inr, ⊎_elim, append-nil, arith}
 use Rattle.std.specs.List.{flat_map}
-use Rattle.std.proofs.lemmas.Bool.{and_parts, and_from, and_left, and_right, leb-true, ltb-true, eqb-true, le-leb, lt-ltb, eq-eqb, true≢false, false≢true, both_ways}
-use Rattle.std.proofs.lemmas.List.{take-append-drop, drop-drop, take_all, length-drop, length-append, drop_all}
+use Rattle.std.proofs.lemmas.Bool.{and_parts, and_from, and_left, and_right, leb-true, eqb-true, le-leb, lt-ltb, eq-eqb, false≢true, both_ways}
+use Rattle.std.proofs.lemmas.List.{take-append-drop, drop-drop, length-drop, length-append, drop_all}
 use Rattle.extents.specs.declared.extent.Extent.{Extent}
 use Rattle.extents.specs.declared.target.Place.{Place}
-use Rattle.extents.specs.Map.{end, is_table}
-use Rattle.extents.specs.Kinds.{place_advanced, place_same}
 use Rattle.objects.specs.declared.header.Header.{Header}
 use Rattle.objects.specs.declared.entry.Entry.{Entry}
 use Rattle.objects.specs.declared.entry.Carrier.{Carrier}
 use Rattle.objects.specs.declared.entry.Carrier.TheVariants.{Data, Clean}
 use Rattle.objects.specs.Layout.{Object, carrier, checkpoint, carrier_kind, total, header_of, header_bytes, entry_bytes, extent_bytes, written}
 use Rattle.objects.specs.Rules.{every, disk_size, most_blocks, entry_fits, extent_fits, valid}
-use Rattle.objects.specs.Seen.{field, header_at, entry_at, extent_at, listed, carrier_at, checkpoint_at, entries_sum, carrier_sound, no_extent, chained, checkpoint_sound, kind_sound, framed, belongs, sound}
+use Rattle.objects.specs.Seen.{field, header_at, entry_at, extent_at, listed, carrier_at, checkpoint_at, carrier_sound, no_extent, chained, checkpoint_sound, kind_sound, framed, belongs, sound}
 use Rattle.objects.specs.declared.damaged.Damaged.{Damaged}
 use Rattle.objects.specs.Reading.{Undamaged, IsDamaged, NoCheckpoint, Read, ReadCheckpoint}
 use Rattle.objects.proofs.Widths.{Bytes, field_small}

@@ -1,9 +1,9 @@
 -- The check of a table, extent by extent. Assumes nothing.
-use Rattle.std.proofs.Common.{◌≡◌, ℕ, ◌+◌, ◌*◌, ◌≤◌, Bool, true, false, not, ◌&&◌, eqb, ltb, leb, List, [], ◌∷◌, sym, refl, ap, ◌∙◌, arith}
+use Rattle.std.proofs.Common.{◌≡◌, ℕ, true, false, eqb, leb, List, [], ◌∷◌, refl, arith}
 use Rattle.std.proofs.lemmas.Bool.{and_parts, and_from, and_left, and_right, leb-true, le-leb, ne_eqb, not_from_false}
 use Rattle.extents.specs.declared.extent.Extent.{Extent}
 use Rattle.extents.specs.declared.target.Place.{Place}
-use Rattle.extents.specs.Map.{end, goes_on, may_follow, is_table}
+use Rattle.extents.specs.Map.{end, may_follow, is_table}
 use Rattle.extents.specs.Kinds.{place_advanced, place_same}
 use Rattle.objects.specs.Rules.{every, extent_fits}
 use Rattle.objects.specs.Seen.{no_extent, follows, chained}

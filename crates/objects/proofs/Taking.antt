@@ -1,10 +1,10 @@
 -- What applying an undamaged object needs and gives. Assumes nothing.
 use Rattle.std.proofs.Common.{◌≡◌, ℕ, ◌+◌, ◌-◌, ◌*◌, ◌^◌, ◌<◌, ◌≤◌, Bool, true, false, cond, ◌&&◌, eqb, ltb, leb, List, [], ◌∷◌, length, sym, refl, ap, ◌∙◌, subst, ⊎_elim, arith}
-use Rattle.std.proofs.lemmas.Bool.{and_parts, and_from, leb-true, ltb-true, eqb-true, le-leb, lt-ltb, eq-eqb, ne_eqb, both_ways, cases_lt}
+use Rattle.std.proofs.lemmas.Bool.{and_parts, and_from, leb-true, eqb-true, le-leb, lt-ltb, ne_eqb, both_ways, cases_lt}
 use Rattle.extents.specs.declared.extent.Extent.{Extent}
 use Rattle.extents.specs.declared.target.Place.{Place}
 use Rattle.extents.specs.declared.table.rows.Rows.{Rows}
-use Rattle.extents.specs.Map.{end, target_at, is_table, in_range, all_in_range}
+use Rattle.extents.specs.Map.{end, target_at, is_table, all_in_range}
 use Rattle.extents.specs.Kinds.{place_advanced, place_same, place_fits}
 use Rattle.extents.specs.Rows.{table_of}
 use Rattle.objects.specs.declared.header.Header.{Header}
@@ -13,7 +13,7 @@ use Rattle.objects.specs.declared.entry.Carrier.{Carrier}
 use Rattle.objects.specs.declared.entry.Carrier.TheVariants.{Data, Clean}
 use Rattle.objects.specs.Layout.{carrier_kind, total}
 use Rattle.objects.specs.Rules.{every, disk_size, entry_fits, extent_fits, most_blocks}
-use Rattle.objects.specs.Seen.{field, header_at, entry_at, extent_at, listed, carrier_at, checkpoint_at, entries_sum, carrier_sound, no_extent, chained, checkpoint_sound, kind_sound, framed, belongs, sound}
+use Rattle.objects.specs.Seen.{field, header_at, entry_at, extent_at, listed, carrier_at, checkpoint_at, carrier_sound, no_extent, checkpoint_sound, kind_sound, framed, belongs, sound}
 use Rattle.objects.specs.Applying.{laid, places, counted, Takes, Overflows}
 use Rattle.objects.proofs.Widths.{Bytes}
 use Rattle.objects.proofs.Lists.{length_listed}

@@ -1,6 +1,6 @@
 -- Fields of a text of bytes. Assumes nothing.
-use Rattle.std.proofs.Common.{◌≡◌, ℕ, zero, suc, ◌+◌, ◌*◌, ◌^◌, ◌<◌, ◌≤◌, List, [], ◌∷◌, ◌++◌, length, get_or, take, drop, sym, refl, ap, ◌∙◌, subst, pow-suc, arith, take-add}
-use Rattle.std.proofs.lemmas.List.{length-take-le, length-drop, get_or-drop, get_or-take, take_at, drop_at, drop-drop}
+use Rattle.std.proofs.Common.{◌≡◌, ℕ, zero, suc, ◌+◌, ◌*◌, ◌^◌, ◌<◌, ◌≤◌, List, [], ◌∷◌, ◌++◌, length, get_or, take, drop, sym, ap, ◌∙◌, subst, pow-suc, arith, take-add}
+use Rattle.std.proofs.lemmas.List.{length-take-le, length-drop, get_or-drop, take_at, drop_at, drop-drop}
 use Rattle.endian.specs.Fields.{le, unle}
 use Rattle.endian.proofs.Laws.{length_le, unle_le, le_unle}
 use Rattle.objects.specs.Seen.{field}

@@ -1,22 +1,21 @@
 -- Objects and their bytes: what is written is read again, and what is read was written. Assumes nothing.
-use Rattle.std.proofs.Common.{◌≡◌, ℕ, zero, suc, ◌+◌, ◌*◌, ◌^◌, ◌<◌, ◌≤◌, Bool, true, false, ◌&&◌, eqb, ltb, leb, List, [], ◌∷◌, ◌++◌, length, get_or, take, drop, sym, refl, ap, ◌∙◌, subst, append_assoc, append-nil, arith}
+use Rattle.std.proofs.Common.{◌≡◌, ℕ, ◌+◌, ◌*◌, ◌^◌, ◌<◌, ◌≤◌, true, eqb, ltb, leb, List, [], ◌++◌, length, take, drop, sym, refl, ap, ◌∙◌, append_assoc, append-nil, arith}
 use Rattle.std.specs.List.{flat_map}
 use Rattle.std.proofs.lemmas.Bool.{and_parts, leb-true, ltb-true, eqb-true}
-use Rattle.std.proofs.lemmas.List.{take-append-drop, drop-drop, take_all, length-drop}
 use Rattle.endian.specs.Fields.{le}
 use Rattle.extents.specs.declared.extent.Extent.{Extent}
 use Rattle.extents.specs.declared.target.Place.{Place}
 use Rattle.extents.specs.Map.{end, is_table}
-use Rattle.extents.specs.Kinds.{place, place_advanced, place_same}
+use Rattle.extents.specs.Kinds.{place_advanced, place_same}
 use Rattle.objects.specs.declared.header.Header.{Header}
 use Rattle.objects.specs.declared.entry.Entry.{Entry}
 use Rattle.objects.specs.declared.entry.Carrier.{Carrier}
 use Rattle.objects.specs.declared.entry.Carrier.TheVariants.{Data, Clean}
-use Rattle.objects.specs.Layout.{Object, carrier, checkpoint, carrier_kind, total, number_of, header_of, header_bytes, entry_bytes, extent_bytes, body_bytes, written}
-use Rattle.objects.specs.Rules.{every, disk_size, most_blocks, entry_fits, extent_fits, holds_well, valid, OneObject}
+use Rattle.objects.specs.Layout.{Object, carrier, checkpoint, carrier_kind, total, header_of, header_bytes, entry_bytes, extent_bytes, written}
+use Rattle.objects.specs.Rules.{every, disk_size, most_blocks, entry_fits, extent_fits, valid, OneObject}
 use Rattle.objects.specs.Seen.{field, header_at, entry_at, extent_at, listed, carrier_at, checkpoint_at, object_as, object_at}
 use Rattle.objects.proofs.Widths.{Bytes, le_field, two_parts, next_field}
-use Rattle.objects.proofs.Lists.{length_listed, joined_listed, listed_joined}
+use Rattle.objects.proofs.Lists.{listed_joined}
 
 -- a header whose numbers fit their fields
 pub record Held (h : Header) : Type 0 where

@@ -1,6 +1,5 @@
 -- What an object does to a map of places and to the count of records. Assumes nothing.
-use Rattle.std.specs.Prelude.{◌≡◌, ℕ, ◌+◌, ◌^◌, ◌≤◌, Bool, true, List, [], ◌∷◌, length, Ok, Err, Option, Result}
-use Rattle.extents.specs.declared.extent.Extent.{Extent}
+use Rattle.std.specs.Prelude.{◌≡◌, ℕ, ◌+◌, ◌^◌, ◌≤◌, true, List, [], ◌∷◌, length, Ok, Err, Option, Result}
 use Rattle.extents.specs.declared.target.Place.{Place}
 use Rattle.extents.specs.declared.table.rows.Rows.{Rows}
 use Rattle.extents.specs.Map.{extent, target_at}

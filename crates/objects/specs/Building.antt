@@ -1,7 +1,6 @@
 -- An object while it is built. Assumes nothing.
-use Rattle.std.specs.Prelude.{◌≡◌, ℕ, ◌+◌, ◌-◌, ◌*◌, ◌^◌, ◌≤◌, Bool, true, false, cond, ◌&&◌, List, [], ◌∷◌, ◌++◌, length, Some, None, Ok, Err, Option, Result, ◌==◌, nat_le, nat_lt}
+use Rattle.std.specs.Prelude.{◌≡◌, ℕ, ◌+◌, ◌*◌, ◌^◌, Bool, true, false, cond, ◌&&◌, List, length, Some, None, Ok, Err, Option, Result, ◌==◌, nat_le, nat_lt}
 use borrow.Rule.Slice.PartMut.{put_mid}
-use Rattle.std.specs.List.{flat_map}
 use Rattle.endian.specs.Fields.{lies}
 use Rattle.objects.specs.declared.entry.Entry.{Entry}
 use Rattle.objects.specs.declared.entry.Carrier.{Carrier}
@@ -12,10 +11,10 @@ use Rattle.objects.specs.declared.states.Begun.{Begun}
 use Rattle.objects.specs.declared.states.Filled.{Filled}
 use Rattle.objects.specs.declared.states.Closed.{Closed}
 use Rattle.objects.specs.declared.header.Header.{Header}
-use Rattle.objects.specs.Layout.{Object, carrier, checkpoint, carrier_kind, entry_bytes, header_bytes, payload_offset, total, written}
+use Rattle.objects.specs.Layout.{checkpoint, carrier_kind, entry_bytes, header_bytes, payload_offset, written}
 use Rattle.extents.specs.declared.extent.Extent.{Extent}
 use Rattle.extents.specs.declared.target.Place.{Place}
-use Rattle.objects.specs.Rules.{every, disk_size, entry_fits, most_blocks, valid}
+use Rattle.objects.specs.Rules.{disk_size, entry_fits, most_blocks, valid}
 use Rattle.objects.specs.Seen.{chained, no_extent}
 
 -- The numbers after a last one.

@@ -1,5 +1,5 @@
 -- Which objects keep the rules. Assumes nothing.
-use Rattle.std.specs.Prelude.{◌≡◌, ℕ, ◌+◌, ◌*◌, ◌^◌, Bool, true, false, ◌&&◌, List, [], ◌∷◌, length, ◌==◌, nat_le, nat_lt}
+use Rattle.std.specs.Prelude.{◌≡◌, ℕ, ◌+◌, ◌*◌, ◌^◌, Bool, true, ◌&&◌, List, [], ◌∷◌, length, ◌==◌, nat_le, nat_lt}
 use Rattle.extents.specs.declared.extent.Extent.{Extent}
 use Rattle.extents.specs.declared.target.Place.{Place}
 use Rattle.extents.specs.Map.{end, is_table}
@@ -7,7 +7,7 @@ use Rattle.extents.specs.Kinds.{place_advanced, place_same}
 use Rattle.objects.specs.declared.entry.Entry.{Entry}
 use Rattle.objects.specs.declared.entry.Carrier.{Carrier}
 use Rattle.objects.specs.declared.entry.Carrier.TheVariants.{Data, Clean}
-use Rattle.objects.specs.Layout.{Object, carrier, checkpoint, total, number_of, first_of, written}
+use Rattle.objects.specs.Layout.{Object, carrier, checkpoint, total, number_of, written}
 
 -- Whether a disk may have so many blocks.
 abbrev pub disk_size : ℕ → Bool

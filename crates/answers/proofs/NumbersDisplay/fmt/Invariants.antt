@@ -1,4 +1,4 @@
-use Rattle.std.proofs.Common.{◌≡◌, take}
+use Rattle.std.proofs.Common.{take}
 use Rattle.std.specs.Fmt.{IsPlainFormatter, HasWritten}
 use Rattle.answers.specs.Answers.{items_text}
 use Rattle.answers.proofs.NumbersDisplay.fmt.Given as goal

@@ -1,4 +1,4 @@
-use Rattle.std.proofs.Common.{refl, ap, arith}
+use Rattle.std.proofs.Common.{refl, ap}
 use Rattle.drive.specs.Views.{zero_slot}
 use Rattle.journal.proofs.Wiping.{slot_stays, slot_goes}
 use Rattle.journal.proofs.wipe.wipe_slot.Goals as goal

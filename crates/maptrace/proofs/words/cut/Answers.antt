@@ -1,4 +1,4 @@
-use Rattle.std.proofs.Common.{◌≡◌, take, ap}
+use Rattle.std.proofs.Common.{take, ap}
 use Rattle.maptrace.proofs.Reading.{cut_rest, cut_all, cut_none}
 use Rattle.maptrace.proofs.words.cut.Goals as goal
 

@@ -1,4 +1,4 @@
-use Rattle.std.proofs.Common.{◌≡◌, arith}
+use Rattle.std.proofs.Common.{arith}
 use Rattle.maptrace.proofs.Reading.{space_later, space_here, space_none}
 use Rattle.maptrace.proofs.words.first_len.Goals as goal
 

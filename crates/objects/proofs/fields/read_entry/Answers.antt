@@ -1,4 +1,4 @@
-use Rattle.std.proofs.Common.{◌≡◌, ap, ◌∙◌}
+use Rattle.std.proofs.Common.{ap, ◌∙◌}
 use Rattle.objects.specs.Layout.{entry_bytes}
 use Rattle.objects.proofs.Writings.{entry_back}
 use Rattle.objects.proofs.fields.read_entry.Goals as goal

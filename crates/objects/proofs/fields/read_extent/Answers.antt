@@ -1,4 +1,4 @@
-use Rattle.std.proofs.Common.{◌≡◌, ap, ◌∙◌}
+use Rattle.std.proofs.Common.{ap, ◌∙◌}
 use Rattle.objects.specs.Layout.{extent_bytes}
 use Rattle.objects.proofs.Writings.{extent_back}
 use Rattle.objects.proofs.fields.read_extent.Goals as goal

@@ -1,4 +1,4 @@
-use Rattle.std.proofs.Common.{◌≡◌, ap, ◌∙◌}
+use Rattle.std.proofs.Common.{ap, ◌∙◌}
 use Rattle.objects.specs.Layout.{header_bytes}
 use Rattle.objects.proofs.Writings.{header_back}
 use Rattle.objects.proofs.fields.read_header.Goals as goal

@@ -1,4 +1,4 @@
-use Rattle.std.proofs.Common.{◌≡◌, ◌^◌, ◌<◌, take, drop, sym, ◌∙◌, arith, rules}
+use Rattle.std.proofs.Common.{◌≡◌, ◌^◌, ◌<◌, take, drop, sym, rules}
 use Rattle.endian.specs.Fields.{le}
 use Rattle.endian.proofs.Laws.{got}
 use Rattle.objects.proofs.Widths.{field_le}

@@ -1,5 +1,4 @@
 use Rattle.objects.proofs.Writings.{one_object}
-use Rattle.objects.proofs.Sound as sound
 use Rattle.objects.proofs.laws.one_object.Goals as goal
 
 pub returns : goal.returns

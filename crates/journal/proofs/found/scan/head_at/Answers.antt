@@ -1,6 +1,4 @@
-use Rattle.std.proofs.Common.{◌≡◌, ◌%◌, ◌<◌, get_or, ap, ◌∙◌, arith}
-use Rattle.std.proofs.lemmas.Nat.{mod_below}
-use Rattle.drive.specs.Views.{slot_count, zero_slot}
+use Rattle.std.proofs.Common.{ap, ◌∙◌, arith}
 use Rattle.journal.specs.Layout.{head_of}
 use Rattle.journal.proofs.Reading.{read_at}
 use Rattle.journal.proofs.found.scan.head_at.Goals as goal

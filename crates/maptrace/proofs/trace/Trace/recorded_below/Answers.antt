@@ -1,4 +1,4 @@
-use Rattle.std.proofs.Common.{◌≡◌, is_some, sym, ap, ◌∙◌, arith}
+use Rattle.std.proofs.Common.{◌≡◌, is_some, ap, ◌∙◌, arith}
 use Rattle.extents.specs.Kinds.{record_advanced}
 use Rattle.extents.specs.Map.{target_at}
 use Rattle.extents.specs.Rows.{table_of}

@@ -1,4 +1,4 @@
-use Rattle.std.proofs.Common.{◌≡◌, sym, ◌∙◌, arith, rules}
+use Rattle.std.proofs.Common.{sym, ◌∙◌}
 use Rattle.objects.proofs.Sound.{found_undamaged, unframed, foreign}
 use Rattle.objects.proofs.fields.reading.examined.Goals as goal
 

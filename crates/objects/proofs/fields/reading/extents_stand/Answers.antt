@@ -1,5 +1,5 @@
-use Rattle.std.proofs.Common.{◌≡◌, ℕ, ◌+◌, ◌*◌, ◌<◌, ◌≤◌, true, false, ◌&&◌, length, get_or, sym, ◌∙◌, arith}
-use Rattle.objects.specs.Seen.{chained, extent_at, listed, no_extent}
+use Rattle.std.proofs.Common.{◌≡◌, ◌<◌, length, get_or, sym, ◌∙◌, arith}
+use Rattle.objects.specs.Seen.{extent_at, listed}
 use Rattle.objects.proofs.Lists.{length_listed, get_or_listed}
 use Rattle.objects.proofs.Loops.{chain_more, chain_stop, chain_end}
 use Rattle.objects.proofs.fields.reading.extents_stand.Goals as goal

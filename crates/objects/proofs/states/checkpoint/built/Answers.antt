@@ -1,4 +1,4 @@
-use Rattle.std.proofs.Common.{◌≡◌, ◌^◌, ◌<◌, sym, refl, ap, ◌∙◌, rules}
+use Rattle.std.proofs.Common.{◌^◌, ◌<◌, sym, refl, ◌∙◌, rules}
 use Rattle.objects.proofs.Ready.{ready_is, ready_room, checkpoint_built}
 use Rattle.objects.proofs.states.checkpoint.built.Goals as goal
 

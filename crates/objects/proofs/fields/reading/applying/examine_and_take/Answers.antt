@@ -1,4 +1,4 @@
-use Rattle.std.proofs.Common.{◌≡◌, ℕ, sym, refl, ap, ◌∙◌, subst, rules}
+use Rattle.std.proofs.Common.{ℕ, sym, refl, ap, ◌∙◌, subst}
 use Rattle.objects.specs.Applying.{Applies}
 use Rattle.objects.specs.Seen.{framed, belongs}
 use Rattle.objects.proofs.Sound.{unframed, foreign}

@@ -1,5 +1,4 @@
 use Rattle.std.proofs.Common.{◌≡◌, ◌+◌, ◌<◌, ◌≤◌, length, get_or, sym, ◌∙◌, arith}
-use Rattle.objects.specs.Layout.{total}
 use Rattle.objects.specs.Seen.{entry_at, listed}
 use Rattle.objects.proofs.Lists.{length_listed, get_or_listed}
 use Rattle.objects.proofs.Laying.{lay_none, lay_small, lay_more, lay_all}

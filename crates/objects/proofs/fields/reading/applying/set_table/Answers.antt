@@ -1,4 +1,4 @@
-use Rattle.std.proofs.Common.{◌≡◌, ◌<◌, ◌≤◌, length, get_or, take, sym, refl, ap, ◌∙◌, arith}
+use Rattle.std.proofs.Common.{◌≡◌, ◌<◌, length, get_or, sym, refl, ap, ◌∙◌, arith}
 use Rattle.extents.specs.Kinds.{place_advanced, place_fits}
 use Rattle.extents.specs.Map.{all_in_range}
 use Rattle.std.proofs.lemmas.List.{take_all}

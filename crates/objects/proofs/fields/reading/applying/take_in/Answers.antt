@@ -1,4 +1,4 @@
-use Rattle.std.proofs.Common.{◌≡◌, ◌^◌, ◌<◌, sym, refl, ap, ◌∙◌, rules}
+use Rattle.std.proofs.Common.{◌≡◌, ◌^◌, ◌<◌, refl, rules}
 use Rattle.objects.proofs.Taking.{data_facts, clean_facts, set_facts, data_taken, clean_taken, table_taken, data_past}
 use Rattle.objects.proofs.fields.reading.applying.take_in.Goals as goal
 
