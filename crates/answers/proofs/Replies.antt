@@ -2,7 +2,7 @@
 use Rattle.std.proofs.Common.{◌≡◌, ℕ, ◌+◌, ◌-◌, ◌^◌, ◌<◌, Bool, true, false, List, [], ◌∷◌, ◌++◌, map, length, get_or, take, drop, decimal, sym, refl, ap, ◌∙◌, arith}
 use Rattle.std.proofs.lemmas.List.{take_more, take_all, map_push, append-nil, append_assoc}
 use Rattle.commands.specs.Grammar.{spaced}
-use Rattle.std.specs.List.{AllByRecursion as All}
+use Rattle.std.specs.List.{AllByRecursion}
 use Rattle.commands.specs.Numbers.{number_in}
 use Rattle.answers.specs.Answers.{items_text, verdict, OneAnswer}
 use Rattle.commands.proofs.Figures.{Stops, some_same, number_back}
@@ -31,7 +31,7 @@ closed_stops : (ns : List ℕ) → Stops (closed ns)
 closed_stops [] = refl
 closed_stops (n ∷ ns) = refl
 
-items_same : (xs ys : List ℕ) → All (λ n. n < 2 ^ 64) xs → All (λ n. n < 2 ^ 64) ys → closed xs ≡ closed ys → xs ≡ ys
+items_same : (xs ys : List ℕ) → AllByRecursion (λ n. n < 2 ^ 64) xs → AllByRecursion (λ n. n < 2 ^ 64) ys → closed xs ≡ closed ys → xs ≡ ys
 items_same [] [] p q e = refl
 items_same [] (y ∷ ys) p q e = absurd (let z : ◌≡◌ {A = ℕ} 41 32 = ap (λ l. get_or l 0 0) e in omega arith)
 items_same (x ∷ xs) [] p q e = absurd (let z : ◌≡◌ {A = ℕ} 32 41 = ap (λ l. get_or l 0 0) e in omega arith)

@@ -1,6 +1,6 @@
 -- How answers are written. Assumes nothing.
 use Rattle.std.specs.Prelude.{◌≡◌, ℕ, ◌^◌, ◌<◌, Bool, true, false, List, [], ◌∷◌, ◌++◌, map, codes, decimal}
-use Rattle.std.specs.List.{AllByRecursion as All}
+use Rattle.std.specs.List.{AllByRecursion}
 use Rattle.answers.specs.declared.Answer.{Answer}
 use Rattle.answers.specs.declared.Numbers.{Numbers}
 use Rattle.commands.specs.Grammar.{spaced}
@@ -37,7 +37,7 @@ numbers_text x = items_text x.items.now
 -- The numbers of an answer have 64 bits.
 pub record InRange (x : Reply) : Type 0 where
   pub line : x.line < 2 ^ 64
-  pub items : All (λ n. n < 2 ^ 64) x.items
+  pub items : AllByRecursion (λ n. n < 2 ^ 64) x.items
 
 -- Two different answers never have the same line.
 abbrev pub OneAnswer : Type 0

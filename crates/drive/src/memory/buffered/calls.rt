@@ -2,7 +2,7 @@
 ghost use Rattle.std.specs.Prelude.{◌≡◌, OnOk};
 ghost use Rattle.drive.specs.Views.{Made, Read, Write, Cut, slot_count, flushed, blank, wrote_current, cut_by, bit};
 ghost use Rattle.drive.specs.Held.{buffered};
-ghost use Rattle.std.proofs.Common.{rules, arith};
+ghost use Rattle.std.proofs.Common.{rules};
 
 use super::BufferedDrive;
 use crate::memory::zeros;
@@ -23,7 +23,7 @@ impl BufferedDrive {
 impl Drive for BufferedDrive {
     ghost meaning = { buffered };
 
-    ghost shaped = { first_of (Prim.search rules, Prim.grind (arith, Self.row.coded.inj)) };
+    ghost shaped = { Prim.search rules };
 
     fn slots(&self) -> u32 {
         self.current.count()
