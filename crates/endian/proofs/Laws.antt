@@ -1,7 +1,8 @@
 -- The laws of `le` at every width, and of fields in a text of bytes. Assumes nothing.
-use Rattle.std.proofs.Common.{◌≡◌, ℕ, zero, suc, ◌+◌, ◌-◌, ◌*◌, ◌/◌, ◌%◌, ◌^◌, ◌<◌, ◌≤◌, List, [], ◌∷◌, length, get_or, take, drop, IfSome, Some, Option, sym, refl, ap, ◌∙◌, subst, pow-suc, arith, le-leb}
+use Rattle.std.proofs.Common.{◌≡◌, ℕ, zero, suc, ◌+◌, ◌*◌, ◌/◌, ◌%◌, ◌^◌, ◌<◌, ◌≤◌, List, [], ◌∷◌, length, get_or, drop, IfSome, Some, Option, sym, refl, ap, ◌∙◌, subst, pow-suc, arith, le-leb}
 use borrow.Rule.Slice.PartMut.{put_mid}
-use Rattle.std.proofs.lemmas.List.{drop_more, drop_all, get_or-drop, length-take-le, length-drop}
+use Rattle.std.proofs.lemmas.List.{drop_more, drop_all}
+use Rattle.std.specs.Int.{from_le_bytes, w64}
 use Rattle.endian.specs.Fields.{le, unle, placed, FieldsStand}
 
 -- a number has as many bytes as the width says
@@ -62,22 +63,15 @@ unle_places (suc width) i bytes h =
     let rest = unle_places width (i + 1) bytes (omega arith) in
     ap unle (drop_more bytes i 0 (omega arith)) ∙ ap (λ n. get_or bytes i 0 + 256 * n) rest
 
--- a read: `field` is the part that was copied, and `value` the sum of its bytes by their places
-pub read_le : (width at : ℕ) (bytes field : List ℕ) (value : ℕ) → at + width ≤ length bytes → ((i : ℕ) → get_or bytes i 0 < 256) → field ≡ take (at + width - at) (drop at bytes) → value ≡ by_places width 0 field → take width (drop at bytes) ≡ le width value
-read_le width at bytes field value room each copied sums =
-    let part = take width (drop at bytes) in
-    let long : length part ≡ width = length-take-le width (drop at bytes) (simp length-drop (omega arith)) in
-    let small : ((i : ℕ) → get_or part i 0 < 256) = λ i. small_part width (drop at bytes) (λ k. rw get_or-drop (each (at + k))) i in
-    let span : at + width - at ≡ width = omega arith in
-    let is : part ≡ field = sym (copied ∙ ap (λ n. take n (drop at bytes)) span) in
-    let number : unle part ≡ value = unle_places width 0 part (omega arith) ∙ ap (by_places width 0) is ∙ sym sums in
-    sym (le_unle part small) ∙ ap (λ n. le n (unle part)) long ∙ ap (le width) number
-  where
-    small_part : (n : ℕ) (xs : List ℕ) → ((i : ℕ) → get_or xs i 0 < 256) → (i : ℕ) → get_or (take n xs) i 0 < 256
-    small_part zero xs e i = omega arith
-    small_part (suc n) [] e i = omega arith
-    small_part (suc n) (x ∷ xs) e zero = e 0
-    small_part (suc n) (x ∷ xs) e (suc i) = small_part n xs (λ k. e (suc k)) i
+-- bytes of which `value` is the sum by places are its writing
+pub written : (width : ℕ) (bytes : List ℕ) (value : ℕ) → ((i : ℕ) → get_or bytes i 0 < 256) → length bytes ≡ width → value ≡ by_places width 0 bytes → le width value ≡ bytes
+written width bytes value each long sums =
+    let number : unle bytes ≡ value = unle_places width 0 bytes (omega arith) ∙ sym sums in
+    ap (le width) (sym number) ∙ ap (λ n. le n (unle bytes)) (sym long) ∙ le_unle bytes each
+
+-- eight bytes are the writing of the number that is read from them
+pub le_8 : (bytes : List ℕ) (n : ℕ) → length bytes ≡ 8 → ((i : ℕ) → get_or bytes i 0 < 256) → n ≡ from_le_bytes w64 bytes → le 8 n ≡ bytes
+le_8 bytes n long each is = written 8 bytes n each long (omega arith)
 
 -- what a part that has room leaves
 pub placed_is : (at width : ℕ) (part bytes : List ℕ) → at + width ≤ length bytes → placed at width part bytes ≡ put_mid at width bytes part

@@ -2,6 +2,7 @@
 #![tactic(auto)]
 
 ghost use Rattle.std.specs.Prelude.{◌≡◌, ℕ, ◌+◌, ◌<◌, ◌≤◌, length, take, drop, is_some, IfSome, nat_le};
+ghost use Rattle.std.proofs.Common.{rules};
 ghost use Rattle.endian.specs.Fields.{FieldsStand, le, lies, placed};
 
 // Whether `width` bytes from `at` on lie in `length` bytes.
@@ -23,120 +24,104 @@ pub fn put_part(buf: &mut [u8], at: usize, part: &[u8]) -> bool
     true
 }
 
-// The two bytes of a number.
-fn bytes_u16(value: u16) -> [u8; 2]
-    ensures { result ≡ le 2 value }
-{
-    value.to_le_bytes()
+// A number of `N` bytes.
+pub trait Number<const N: usize>: Copy {
+    // The number, as a natural number.
+    ghost value: { Self → ℕ };
+
+    // Its bytes, the lowest first.
+    fn to_bytes(self) -> [u8; N]
+        ensures { result ≡ le N (value self) };
+
+    // The number that the bytes write.
+    fn of_bytes(bytes: [u8; N]) -> Self
+        ensures { le N (value result) ≡ bytes.entry };
+
+    // No number has more than eight.
+    ghost short: { N ≤ 8 };
 }
 
-// The number in the two bytes at `at`.
-fn at_u16(buf: &[u8], at: usize) -> u16
-    requires { at + 2 ≤ length buf.now }
-    ensures { take 2 (drop at buf.now) ≡ le 2 result }
-{
-    let mut field = [0; 2];
-    field.copy_from_slice(&buf[at..at + 2]);
-    u16::from_le_bytes(field)
-}
+impl Number<2> for u16 {
+    ghost value = { λ n. n };
 
-// Puts a number of two bytes at `at`.
-pub fn put_u16(buf: &mut [u8], at: usize, value: u16) -> bool
-    ensures put { buf.new ≡ placed at 2 (le 2 value) buf.old }
-    ensures room { result ≡ lies at 2 buf.old }
-{
-    put_part(buf, at, &bytes_u16(value))
-}
+    ghost short = { Prim.search rules };
 
-// The number in the two bytes at `at`, or none where they pass the end.
-pub fn get_u16(buf: &[u8], at: usize) -> Option<u16>
-    ensures room { is_some result ≡ lies at 2 buf.now }
-    ensures bytes { IfSome result (λ v. take 2 (drop at buf.now) ≡ le 2 v) }
-{
-    if fits(at, 2, buf.len()) {
-        Some(at_u16(buf, at))
-    } else {
-        None
+    #[tactic(auto, unfolding(crate::specs::Fields::le))]
+    fn to_bytes(self) -> [u8; 2]
+        ensures { result ≡ le 2 self }
+    {
+        u16::to_le_bytes(self)
+    }
+
+    #[tactic(auto, using(std::proofs::lemmas::Nat::le_bytes_2), unfolding(crate::specs::Fields::le))]
+    fn of_bytes(bytes: [u8; 2]) -> u16
+        ensures { le 2 result ≡ bytes }
+    {
+        u16::from_le_bytes(bytes)
     }
 }
 
-// The four bytes of a number.
-fn bytes_u32(value: u32) -> [u8; 4]
-    ensures { result ≡ le 4 value }
-{
-    value.to_le_bytes()
-}
+impl Number<4> for u32 {
+    ghost value = { λ n. n };
 
-// The number in the four bytes at `at`.
-fn at_u32(buf: &[u8], at: usize) -> u32
-    requires { at + 4 ≤ length buf.now }
-    ensures { take 4 (drop at buf.now) ≡ le 4 result }
-{
-    let mut field = [0; 4];
-    field.copy_from_slice(&buf[at..at + 4]);
-    u32::from_le_bytes(field)
-}
+    ghost short = { Prim.search rules };
 
-// Puts a number of four bytes at `at`.
-pub fn put_u32(buf: &mut [u8], at: usize, value: u32) -> bool
-    ensures put { buf.new ≡ placed at 4 (le 4 value) buf.old }
-    ensures room { result ≡ lies at 4 buf.old }
-{
-    put_part(buf, at, &bytes_u32(value))
-}
+    #[tactic(auto, unfolding(crate::specs::Fields::le))]
+    fn to_bytes(self) -> [u8; 4]
+        ensures { result ≡ le 4 self }
+    {
+        u32::to_le_bytes(self)
+    }
 
-// The number in the four bytes at `at`, or none where they pass the end.
-pub fn get_u32(buf: &[u8], at: usize) -> Option<u32>
-    ensures room { is_some result ≡ lies at 4 buf.now }
-    ensures bytes { IfSome result (λ v. take 4 (drop at buf.now) ≡ le 4 v) }
-{
-    if fits(at, 4, buf.len()) {
-        Some(at_u32(buf, at))
-    } else {
-        None
+    #[tactic(auto, using(std::proofs::lemmas::Nat::le_bytes_4), unfolding(crate::specs::Fields::le))]
+    fn of_bytes(bytes: [u8; 4]) -> u32
+        ensures { le 4 result ≡ bytes }
+    {
+        u32::from_le_bytes(bytes)
     }
 }
 
-// The eight bytes of a number.
-fn bytes_u64(value: u64) -> [u8; 8]
-    ensures { result ≡ le 8 value }
-{
-    value.to_le_bytes()
-}
+impl Number<8> for u64 {
+    ghost value = { λ n. n };
 
-// The number in the eight bytes at `at`.
-fn at_u64(buf: &[u8], at: usize) -> u64
-    requires { at + 8 ≤ length buf.now }
-    ensures { take 8 (drop at buf.now) ≡ le 8 result }
-{
-    let mut field = [0; 8];
-    field.copy_from_slice(&buf[at..at + 8]);
-    u64::from_le_bytes(field)
-}
+    ghost short = { Prim.search rules };
 
-// Puts a number of eight bytes at `at`.
-pub fn put_u64(buf: &mut [u8], at: usize, value: u64) -> bool
-    ensures put { buf.new ≡ placed at 8 (le 8 value) buf.old }
-    ensures room { result ≡ lies at 8 buf.old }
-{
-    put_part(buf, at, &bytes_u64(value))
-}
-
-// The number in the eight bytes at `at`, or none where they pass the end.
-pub fn get_u64(buf: &[u8], at: usize) -> Option<u64>
-    ensures room { is_some result ≡ lies at 8 buf.now }
-    ensures bytes { IfSome result (λ v. take 8 (drop at buf.now) ≡ le 8 v) }
-{
-    if fits(at, 8, buf.len()) {
-        Some(at_u64(buf, at))
-    } else {
-        None
+    #[tactic(auto, unfolding(crate::specs::Fields::le))]
+    fn to_bytes(self) -> [u8; 8]
+        ensures { result ≡ le 8 self }
+    {
+        u64::to_le_bytes(self)
     }
+
+    fn of_bytes(bytes: [u8; 8]) -> u64
+        ensures { le 8 result ≡ bytes }
+    {
+        u64::from_le_bytes(bytes)
+    }
+}
+
+// Puts a number at `at`, and answers whether it has room there; without room the buffer stays as it was.
+pub fn put<T: Number<N>, const N: usize>(buf: &mut [u8], at: usize, value: T) -> bool
+    ensures put { buf.new ≡ placed at N (le N (T.value value)) buf.old }
+    ensures room { result ≡ lies at N buf.old }
+{
+    put_part(buf, at, &value.to_bytes())
+}
+
+// The number in the bytes at `at`, or none where they pass the end.
+pub fn get<T: Number<N>, const N: usize>(buf: &[u8], at: usize) -> Option<T>
+    ensures room { is_some result ≡ lies at N buf.now }
+    ensures bytes { IfSome result (λ v. take N (drop at buf.now) ≡ le N (T.value v)) }
+{
+    if !fits(at, N, buf.len()) {
+        return None;
+    }
+    let mut field = [0; N];
+    field.copy_from_slice(&buf[at..at + N]);
+    Some(T::of_bytes(field))
 }
 
 // At every width a number has one writing, which reads back as that number, and every text of that many bytes is one.
-pub fn little_endian() -> u8
+pub fn little_endian()
     ensures { FieldsStand }
-{
-    0
-}
+{}
