@@ -1,7 +1,8 @@
 -- The table that `insert` puts together from its parts. Assumes nothing.
 use Rattle.std.proofs.Common.{◌≡◌, ℕ, ◌+◌, ◌-◌, ◌^◌, ◌<◌, ◌≤◌, Bool, true, leb, List, ◌∷◌, ◌++◌, length, take, drop, Option, sym, ap, ◌∙◌, subst, arith}
 use Rattle.std.proofs.lemmas.Bool.{and_parts, leb-true}
-use Rattle.std.proofs.lemmas.List.{take-take, drop-drop, length-take-le, length-drop}
+use Rattle.std.proofs.lemmas.List.{append_assoc, drop-drop, length-drop}
+use Rattle.std.specs.List.{splice}
 use Rattle.extents.specs.declared.extent.Extent.{Extent}
 use Rattle.extents.specs.Laws.{Laws}
 use Rattle.extents.specs.Map.{end, target_at, is_table, in_range, all_in_range}
@@ -12,10 +13,7 @@ use Rattle.extents.proofs.Reach.{past_reach, reach_within, reach_rises, range_dr
 use Rattle.extents.proofs.Joining.{listed_short, head_held, joined_length}
 use Rattle.extents.proofs.Insertion.{left_list, right_list, inserted, right_end, right_parts, left_parts, inserted_table, inserted_range, inserted_target, rest_range}
 
-module _ {T : Type 0} {adv : T → ℕ → T} {same : T → T → Bool} {fits : T → Bool} (laws : Laws adv same fits) (s : List (Extent T)) (count : ℕ) (e : Extent T) (within : count ≤ length s) where
-  abbrev xs : List (Extent T)
-  xs = take count s
-
+module _ {T : Type 0} {adv : T → ℕ → T} {same : T → T → Bool} {fits : T → Bool} (laws : Laws adv same fits) (xs : List (Extent T)) (e : Extent T) where
   ends : (n : ℕ) → in_range adv fits n e ≡ true → end e ≤ n
   ends n f = leb-true _ _ (and_parts (leb (end e) n) _ f).0
 
@@ -36,10 +34,9 @@ module _ {T : Type 0} {adv : T → ℕ → T} {same : T → T → Bool} {fits : 
         subst P (sym right_is) (right_end laws (end e) (2 ^ 32 - 1) ys (past_reach (end e + 1) xs) (range_drop adv fits (2 ^ 32 - 1) (reach (end e + 1) xs) xs (ranged adv fits (2 ^ 32 - 1) xs r)) (omega arith))
 
     -- the entries that stay end within the count
-    pub upto_within : j + length (listed R) ≤ count
+    pub upto_within : j + length (listed R) ≤ length xs
     upto_within =
         let w = reach_within (end e + 1) xs in
-        let n = length-take-le count s within in
         let h = head_held (right_of adv (end e)) ys in
         let d = length-drop (reach (end e + 1) xs) xs in
         let q : length (listed R) ≡ length (listed (at_head (right_of adv (end e)) ys)) = ap (λ o. length (listed o)) right_is in
@@ -63,21 +60,23 @@ module _ {T : Type 0} {adv : T → ℕ → T} {same : T → T → Bool} {fits : 
           omega (arith, k.0)
 
       module _ (i : ℕ) (L : Option (Extent T)) (h : Extent T) (second : Option (Extent T)) (ir : i ≡ reach e.first xs) (lr : L ≡ at_head (left_of e.first) (drop i xs)) (jh : joined_onto adv same L m ≡ h ∷ listed second) where
-        pub left_room : count + 2 ≤ length s → i + (1 + length (listed second) + length (listed third)) + (count - (j + length (listed R))) ≤ length s
-        left_room room =
+        pub left_before : i ≤ j
+        left_before = let a = reach_rises e.first (end e + 1) xs (omega arith) in omega arith
+
+        pub left_room : i + (1 + length (listed second) + length (listed third)) ≤ j + length (listed R) + 2
+        left_room =
             let a = reach_rises e.first (end e + 1) xs (omega arith) in
             let b = listed_short second in
             let c = third_short in
             let d = upto_within in
             omega arith
 
-        pub new_is : (new : List (Extent T)) → new ≡ take i s ++ (h ∷ (listed second ++ (listed third ++ drop (j + length (listed R)) xs))) → new ≡ inserted adv same e xs
-        new_is new q =
-            let w = reach_within e.first xs in
-            let n = length-take-le count s within in
+        pub new_is : (upto : ℕ) (new : List (Extent T)) → upto ≡ j + length (listed R) → new ≡ splice xs i upto (h ∷ (listed second ++ listed third)) → new ≡ inserted adv same e xs
+        new_is upto new u q =
             let M = listed third ++ drop (j + length (listed R)) xs in
             q
-            ∙ ap (λ l. l ++ (h ∷ (listed second ++ M))) (sym (take-take i count s (omega arith)))
+            ∙ ap (λ k. splice xs i k (h ∷ (listed second ++ listed third))) u
+            ∙ ap (λ l. take i xs ++ (h ∷ l)) (append_assoc (listed second) (listed third) (drop (j + length (listed R)) xs))
             ∙ ap (λ l. take i xs ++ (l ++ M)) (sym jh)
             ∙ ap (λ o. take i xs ++ (joined_onto adv same o m ++ M)) lr
             ∙ ap (λ k. take k xs ++ (joined_onto adv same (at_head (left_of e.first) (drop k xs)) m ++ M)) ir

@@ -7,7 +7,7 @@ use Rattle.extents.specs.Laws.{Laws}
 use Rattle.extents.specs.Map.{extent, end, covers, target_at, goes_on}
 use Rattle.extents.specs.Answers.{overlaid}
 use Rattle.extents.specs.Steps.{reach, joined, joined_onto, without, left_of, right_of, at_head, listed, EndsInWidth}
-use Rattle.extents.proofs.Tables.{Next, Table, From, Ranged, from_weaker, from_next, inside, before, beyond, none_before, target_behind, onward, fits_before}
+use Rattle.extents.proofs.Tables.{Next, Table, From, Ranged, from_weaker, from_next, inside, before, beyond, none_before, gap_next, target_behind, onward, trim_next, fits_before}
 use Rattle.extents.proofs.Reach.{Past, past_reach, table_drop, range_drop, range_front, target_from, target_after, table_front}
 use Rattle.extents.proofs.Joining.{joined_target, joined_table, joined_next, joined_from, joined_range}
 
@@ -28,14 +28,10 @@ inserted adv same e xs = take (reach e.first xs) xs ++ left_list adv same e.firs
 module _ {T : Type 0} {adv : T → ℕ → T} {same : T → T → Bool} {fits : T → Bool} (laws : Laws adv same fits) where
   -- right of c
   module _ (c : ℕ) where
-    cut_next : (e : Extent T) (es : List (Extent T)) → e.first ≤ c → c < end e → Next adv e es → Next adv (without adv (c - e.first) e) es
-    cut_next e [] l h n = tt
-    cut_next e (x ∷ xs) l h n = (omega (arith, n.0), λ q r. n.1 (omega arith) (r ∙ onward laws e.target (c - e.first) (e.length - (c - e.first)) e.length (omega arith)))
-
     right_table : (xs : List (Extent T)) → Past (c + 1) xs → Table adv xs → Table adv (right_list adv c xs)
     right_table [] p t = tt
     right_table (e ∷ es) p t =
-        cond_both (leb e.first c) _ _ (λ zs. Table adv zs) (λ g. let l = leb-true e.first c g in (omega arith, cut_next e es l (omega arith) t.1, t.2)) (λ _. t)
+        cond_both (leb e.first c) _ _ (λ zs. Table adv zs) (λ g. let l = leb-true e.first c g in (omega arith, trim_next laws (c - e.first) e es (omega arith) t.1, t.2)) (λ _. t)
 
     right_from : (xs : List (Extent T)) → From adv c (right_list adv c xs)
     right_from [] = tt
@@ -83,14 +79,10 @@ module _ {T : Type 0} {adv : T → ℕ → T} {same : T → T → Bool} {fits : 
         (λ g. let l = ltb-true e.first a g in joined_table laws (front e) R (omega arith) (from_weaker adv a (end (front e)) R (omega arith) from) tab)
         (λ _. tab)
 
-    gap_next : (p : Extent T) (ys : List (Extent T)) → end p < a → From adv a ys → Next adv p ys
-    gap_next p [] l f = tt
-    gap_next p (y ∷ ys) l f = (omega arith, λ q _. omega arith)
-
     left_next : (xs : List (Extent T)) (p : Extent T) → end p < a → Next adv p xs → Next adv p (left_list adv same a R xs)
-    left_next [] p l n = gap_next p R l from
+    left_next [] p l n = gap_next adv p a R l from
     left_next (e ∷ es) p l n =
-        cond_both (ltb e.first a) _ _ (λ zs. Next adv p zs) (λ _. joined_next laws p (front e) R n) (λ _. gap_next p R l from)
+        cond_both (ltb e.first a) _ _ (λ zs. Next adv p zs) (λ _. joined_next laws p (front e) R n) (λ _. gap_next adv p a R l from)
 
     front_target : (e : Extent T) (es : List (Extent T)) (b : ℕ) → a ≤ end e → e.first < a → Table adv (e ∷ es) → b < a → target_at adv (front e ∷ R) b ≡ target_at adv (e ∷ es) b
     front_target e es b p g t h =
@@ -178,7 +170,7 @@ module _ {T : Type 0} {adv : T → ℕ → T} {same : T → T → Bool} {fits : 
         (cases_lt b (end e)))
         (cases_lt b a)
 
-cond_append : {X : Type 0} (b : Bool) (xs ys zs : List X) → cond b (xs ++ zs) (ys ++ zs) ≡ cond b xs ys ++ zs
+pub cond_append : {X : Type 0} (b : Bool) (xs ys zs : List X) → cond b (xs ++ zs) (ys ++ zs) ≡ cond b xs ys ++ zs
 cond_append true _ _ _ = refl
 cond_append false _ _ _ = refl
 

@@ -1,7 +1,10 @@
 -- How far `reach` gets in a table. Assumes nothing.
-use Rattle.std.proofs.Common.{◌≡◌, ℕ, zero, suc, ◌+◌, ◌<◌, ◌≤◌, Bool, ltb, List, [], ◌∷◌, ◌++◌, length, get_or, take, drop, sym, refl, ap, ◌∙◌, subst, ⊎_elim, arith}
-use Rattle.std.proofs.lemmas.Bool.{lt-ltb, le-ltb, cond-true, cond-false, cases_lt}
+use Rattle.std.proofs.Common.{◌≡◌, ℕ, zero, suc, ◌+◌, ◌<◌, ◌≤◌, Bool, true, false, ltb, List, [], ◌∷◌, ◌++◌, length, get_or, take, drop, sym, refl, ap, ◌∙◌, subst, ⊎_elim, arith}
+use Rattle.std.proofs.lemmas.Bool.{lt-ltb, le-ltb, ltb-true, ltb-false, cond-true, cond-false, cases_lt}
 use Rattle.std.proofs.lemmas.List.{drop_more}
+use Rattle.std.specs.List.{AllWithin}
+use Rattle.std.specs.List.Sorted.{IsPartitionedBy, IsPartitionPoint, IsNonDecreasingBy}
+use Rattle.std.proofs.lemmas.List.Sorted.{IsPartitionedBy-ltb}
 use Rattle.extents.specs.declared.extent.Extent.{Extent}
 use Rattle.extents.specs.Map.{end, target_at}
 use Rattle.extents.specs.Steps.{reach}
@@ -38,11 +41,11 @@ module _ {T : Type 0} where
       ⊎_elim (λ l. subst P (sym (reach_past x e es l)) (past_reach x es)) (λ l. subst P (sym (reach_here x e es l)) l) (cases_lt (end e) x)
 
   -- an entry that does not end before x is not counted
-  pub reach_low : (x : ℕ) (xs : List (Extent T)) (i : ℕ) (e : Extent T) → i < length xs → e ≡ get_or xs i e → x ≤ end e → reach x xs ≤ i
-  reach_low x [] i e l q h = absurd (omega arith)
-  reach_low x (y ∷ ys) zero e l q h = omega (arith, reach_here x y ys (subst (λ z. x ≤ end z) q h))
-  reach_low x (y ∷ ys) (suc i) e l q h =
-      let r = reach_low x ys i e (omega arith) q h in
+  reach_low : (x : ℕ) (xs : List (Extent T)) (i : ℕ) (d : Extent T) → i < length xs → x ≤ end (get_or xs i d) → reach x xs ≤ i
+  reach_low x [] i d l h = absurd (omega arith)
+  reach_low x (y ∷ ys) zero d l h = omega (arith, reach_here x y ys h)
+  reach_low x (y ∷ ys) (suc i) d l h =
+      let r = reach_low x ys i d (omega arith) h in
       ⊎_elim (λ k. omega (arith, reach_past x y ys k)) (λ k. omega (arith, reach_here x y ys k)) (cases_lt (end y) x)
 
   pub entry_is : (xs : List (Extent T)) (i : ℕ) (e : Extent T) → i < length xs → e ≡ get_or xs i e → drop i xs ≡ e ∷ drop (i + 1) xs
@@ -54,14 +57,40 @@ module _ {T : Type 0} where
     ends_rise e [] (suc i) d t l = absurd (omega arith)
     ends_rise e (x ∷ xs) (suc i) d t l = let r = ends_rise x xs i d t.2 (omega arith) in omega (arith, t.1.0)
 
+    all_rise : (xs : List (Extent T)) → Table adv xs → IsNonDecreasingBy (λ e. end e) xs
+    all_rise [] t i j d l h = absurd (omega arith)
+    all_rise (e ∷ es) t zero j d l h = ends_rise e es j d t h
+    all_rise (e ∷ es) t (suc i) zero d l h = absurd (omega arith)
+    all_rise (e ∷ es) t (suc i) (suc j) d l h = all_rise es t.2 i j d (omega arith) (omega arith)
+
+    -- no extent that ends before x comes after one that does not
+    pub table_parted : (x : ℕ) (xs : List (Extent T)) → Table adv xs → IsPartitionedBy (λ e. ltb (end e) x) xs
+    table_parted x xs t = IsPartitionedBy-ltb (λ e. end e) xs x (all_rise xs t)
+
     -- an entry that ends before x is counted
-    pub reach_high : (x : ℕ) (xs : List (Extent T)) (i : ℕ) (e : Extent T) → Table adv xs → i < length xs → e ≡ get_or xs i e → end e < x → i < reach x xs
-    reach_high x [] i e t l q h = absurd (omega arith)
-    reach_high x (y ∷ ys) zero e t l q h = omega (arith, reach_past x y ys (subst (λ z. end z < x) q h))
-    reach_high x (y ∷ ys) (suc i) e t l q h =
-        let r = reach_high x ys i e t.2 (omega arith) q h in
-        let s : end (get_or (y ∷ ys) (suc i) e) < x = subst (λ z. end z < x) q h in
-        omega (arith, reach_past x y ys (omega (arith, ends_rise y ys (suc i) e t l)))
+    reach_high : (x : ℕ) (xs : List (Extent T)) (i : ℕ) (d : Extent T) → Table adv xs → i < length xs → end (get_or xs i d) < x → i < reach x xs
+    reach_high x [] i d t l h = absurd (omega arith)
+    reach_high x (y ∷ ys) zero d t l h = omega (arith, reach_past x y ys h)
+    reach_high x (y ∷ ys) (suc i) d t l h =
+        let r = reach_high x ys i d t.2 (omega arith) h in
+        omega (arith, reach_past x y ys (omega (arith, ends_rise y ys (suc i) d t l)))
+
+    -- where the extents that end before x are parted from the others
+    pub parted_reach : (x : ℕ) (xs : List (Extent T)) (i : ℕ) → Table adv xs → i ≤ length xs → IsPartitionPoint (λ e. ltb (end e) x ≡ true) (λ e. ltb (end e) x ≡ false) xs i → i ≡ reach x xs
+    parted_reach x [] i t l p = omega arith
+    parted_reach x (e ∷ es) i t l p = let a = counted i l p.0 in let b = met p.1 in omega arith
+      where
+        counted : (i : ℕ) → i ≤ length (e ∷ es) → AllWithin (λ y. ltb (end y) x ≡ true) (e ∷ es) 0 i → i ≤ reach x (e ∷ es)
+        counted zero l h = omega arith
+        counted (suc i) l h = reach_high x (e ∷ es) i e t (omega arith) (ltb-true _ _ (h i e (omega arith) (omega arith)))
+
+        met : AllWithin (λ y. ltb (end y) x ≡ false) (e ∷ es) i (length (e ∷ es)) → reach x (e ∷ es) ≤ i
+        met h =
+            let w = reach_within x (e ∷ es) in
+            ⊎_elim
+            (λ (k : i < length (e ∷ es)). reach_low x (e ∷ es) i e k (ltb-false _ _ (h i e (omega arith) k)))
+            (λ (k : length (e ∷ es) ≤ i). omega arith)
+            (cases_lt i (length (e ∷ es)))
 
     pub table_drop : (k : ℕ) (xs : List (Extent T)) → Table adv xs → Table adv (drop k xs)
     table_drop zero xs t = t

@@ -1,9 +1,11 @@
 -- Tables as facts, and what they say of a block's target. Assumes nothing.
-use Rattle.std.proofs.Common.{◌≡◌, ℕ, ◌+◌, ◌-◌, ◌<◌, ◌≤◌, Bool, true, false, cond, eqb, leb, List, [], ◌∷◌, ◌++◌, Some, None, Option, sym, refl, ap, ◌∙◌, ⊎_elim, arith}
+use Rattle.std.proofs.Common.{◌≡◌, ℕ, ◌+◌, ◌-◌, ◌<◌, ◌≤◌, Bool, true, false, cond, eqb, leb, List, [], ◌∷◌, ◌++◌, Some, None, sym, refl, ap, ◌∙◌, ⊎_elim, arith}
 use Rattle.std.proofs.lemmas.Bool.{and_parts, and_from, and_left, and_right, le-leb, lt-leb, leb-true, lt-ltb, le-ltb, eqb-true, eq-eqb, not-true, not_from_false, both_ways, cases_Bool, cases_lt, cond-true, cond-false}
+use Rattle.std.proofs.lemmas.Option.{same_Some, none-some}
 use Rattle.extents.specs.declared.extent.Extent.{Extent}
 use Rattle.extents.specs.Laws.{Laws}
 use Rattle.extents.specs.Map.{extent, end, covers, target_in, target_at, goes_on, may_follow, is_table, in_range, all_in_range, OneWriting}
+use Rattle.extents.specs.Steps.{without}
 
 module _ {T : Type 0} (adv : T → ℕ → T) where
   -- x may stand after e
@@ -35,6 +37,11 @@ module _ {T : Type 0} (adv : T → ℕ → T) where
   pub from_next : (e : Extent T) (xs : List (Extent T)) → Next e xs → From (end e) xs
   from_next e [] n = tt
   from_next e (x ∷ xs) n = n.0
+
+  -- what begins after the end of p may stand after it
+  pub gap_next : (p : Extent T) (q : ℕ) (ys : List (Extent T)) → end p < q → From q ys → Next p ys
+  gap_next p q [] l f = tt
+  gap_next p q (y ∷ ys) l f = (omega arith, λ e _. omega arith)
 
   pub ranged : (fits : T → Bool) (n : ℕ) (xs : List (Extent T)) → all_in_range adv fits n xs ≡ true → Ranged fits n xs
   ranged fits n [] h = tt
@@ -70,18 +77,17 @@ module _ {T : Type 0} (adv : T → ℕ → T) where
   target_behind b [] ys zs h = h
   target_behind b (e ∷ es) ys zs h = ap (cond (covers e b) _) (target_behind b es ys zs h)
 
-pub some_not_none : {T : Type 0} (o : Option T) (t : T) → o ≡ None → o ≡ Some t → ⊥
-some_not_none o t p q = let z : ◌≡◌ {A = ℕ} 0 1 = cc in omega arith
-
-same_some : {T : Type 0} (t u : T) → ◌≡◌ {A = Option T} (Some t) (Some u) → t ≡ u
-same_some t u h = cc
-
 pub extent_is : {T : Type 0} (x y : Extent T) → x.first ≡ y.first → x.length ≡ y.length → x.target ≡ y.target → x ≡ y
 extent_is x y f n t = ap (λ k. extent k x.length x.target) f ∙ ap (λ k. extent y.first k x.target) n ∙ ap (extent y.first y.length) t
 
 module _ {T : Type 0} {adv : T → ℕ → T} {same : T → T → Bool} {fits : T → Bool} (laws : Laws adv same fits) where
   pub onward : (t : T) (i j k : ℕ) → i + j ≡ k → adv (adv t i) j ≡ adv t k
   onward t i j k e = laws.twice t i j ∙ ap (adv t) e
+
+  -- an extent without its first blocks stands where it stood
+  pub trim_next : (k : ℕ) (e : Extent T) (es : List (Extent T)) → k < e.length → Next adv e es → Next adv (without adv k e) es
+  trim_next k e [] l n = tt
+  trim_next k e (x ∷ xs) l n = (omega (arith, n.0), λ q r. n.1 (omega arith) (r ∙ onward e.target k (e.length - k) e.length (omega arith)))
 
   -- what fits further on fits
   pub fits_before : (t : T) (i k : ℕ) → i ≤ k → fits (adv t k) ≡ true → fits (adv t i) ≡ true
@@ -126,18 +132,18 @@ module _ {T : Type 0} {adv : T → ℕ → T} {same : T → T → Bool} {fits : 
 
   -- a table after an extent does not give the block at its end the extent's next target
   stops : (e : Extent T) (xs : List (Extent T)) → Next adv e xs → Table adv xs → target_at adv xs (end e) ≡ Some (adv e.target e.length) → ⊥
-  stops e [] n t h = some_not_none None _ refl h
+  stops e [] n t h = none-some _ h
   stops e (x ∷ xs) n t h =
       ⊎_elim
-      (λ (l : end e < x.first). some_not_none _ _ (none_before adv x.first (end e) (x ∷ xs) t (omega arith) l) h)
+      (λ (l : end e < x.first). none-some _ (sym (none_before adv x.first (end e) (x ∷ xs) t (omega arith) l) ∙ h))
       (λ (l : x.first ≤ end e).
       let q : end e ≡ x.first = omega (arith, n.0) in
-      n.1 q (same_some _ _ (sym (at_first x xs t.0) ∙ ap (target_at adv (x ∷ xs)) (sym q) ∙ h)))
+      n.1 q (same_Some _ _ (sym (at_first x xs t.0) ∙ ap (target_at adv (x ∷ xs)) (sym q) ∙ h)))
       (cases_lt (end e) x.first)
 
   module _ (x y : Extent T) (xs ys : List (Extent T)) (tx : Table adv (x ∷ xs)) (ty : Table adv (y ∷ ys)) (h : (b : ℕ) → target_at adv (x ∷ xs) b ≡ target_at adv (y ∷ ys) b) where
     no_earlier : x.first < y.first → ⊥
-    no_earlier l = some_not_none _ _ (none_before adv y.first x.first (y ∷ ys) ty (omega arith) l) (sym (h x.first) ∙ at_first x xs tx.0)
+    no_earlier l = none-some _ (sym (none_before adv y.first x.first (y ∷ ys) ty (omega arith) l) ∙ sym (h x.first) ∙ at_first x xs tx.0)
 
     no_shorter : x.first ≡ y.first → x.target ≡ y.target → x.length < y.length → ⊥
     no_shorter f t l =
@@ -157,14 +163,14 @@ module _ {T : Type 0} {adv : T → ℕ → T} {same : T → T → Bool} {fits : 
 
   one_table : (xs ys : List (Extent T)) → Table adv xs → Table adv ys → ((b : ℕ) → target_at adv xs b ≡ target_at adv ys b) → xs ≡ ys
   one_table [] [] tx ty h = refl
-  one_table [] (y ∷ ys) tx ty h = absurd (some_not_none _ _ (sym (h y.first)) (at_first y ys ty.0))
-  one_table (x ∷ xs) [] tx ty h = absurd (some_not_none _ _ (h x.first) (at_first x xs tx.0))
+  one_table [] (y ∷ ys) tx ty h = absurd (none-some _ (h y.first ∙ at_first y ys ty.0))
+  one_table (x ∷ xs) [] tx ty h = absurd (none-some _ (sym (h x.first) ∙ at_first x xs tx.0))
   one_table (x ∷ xs) (y ∷ ys) tx ty h =
       let back : (b : ℕ) → target_at adv (y ∷ ys) b ≡ target_at adv (x ∷ xs) b = λ b. sym (h b) in
       let e1 = no_earlier x y xs ys tx ty h in
       let e2 = no_earlier y x ys xs ty tx back in
       let f : x.first ≡ y.first = omega (arith, e1, e2) in
-      let t : x.target ≡ y.target = same_some _ _ (sym (at_first x xs tx.0) ∙ h x.first ∙ ap (target_at adv (y ∷ ys)) f ∙ at_first y ys ty.0) in
+      let t : x.target ≡ y.target = same_Some _ _ (sym (at_first x xs tx.0) ∙ h x.first ∙ ap (target_at adv (y ∷ ys)) f ∙ at_first y ys ty.0) in
       let s1 = no_shorter x y xs ys tx ty h f t in
       let s2 = no_shorter y x ys xs ty tx back (sym f) (sym t) in
       let n : x.length ≡ y.length = omega (arith, s1, s2) in

@@ -1,9 +1,10 @@
 pub mod Laws
 pub mod Kinds
 pub mod Map
+pub mod Mapped
 pub mod Order
 pub mod Steps
 pub mod Faults
-pub mod Rows
 pub mod Answers
 pub mod Examples
+pub mod Texts

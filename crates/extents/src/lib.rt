@@ -3,13 +3,13 @@
 
 mod extent;
 mod fault;
-mod numbers;
 mod table;
 mod target;
+mod texts;
 mod theorems;
 
 pub use extent::Extent;
 pub use fault::MapFault;
-pub use table::{PlaceMap, RecordMap};
+pub use table::{ExtentMap, PlaceMap, RecordMap};
 pub use target::{Ordered, Place, Record, Target};
 pub use theorems::{examples_hold, one_writing};

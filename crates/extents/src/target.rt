@@ -28,7 +28,7 @@ pub trait Target: Copy {
 }
 
 // A byte offset in a numbered object.
-#[derive(Clone, Copy)]
+#[derive(Clone, Copy, PartialEq, Eq, Debug)]
 pub struct Place {
     pub object: u32,
     pub offset: u32,
@@ -44,24 +44,17 @@ impl Target for Place {
     ghost laws = { place_laws };
 
     fn advance(self, n: u32) -> Option<Place> {
-        let offset = self.offset as u64 + 512 * n as u64;
-        if offset < 4294967296 {
-            Some(Place {
-                object: self.object,
-                offset: offset as u32,
-            })
-        } else {
-            None
-        }
+        let offset = self.offset.checked_add(n.checked_mul(512)?)?;
+        Some(Place { offset, ..self })
     }
 
     fn leads_to(self, n: u32, next: Place) -> bool {
-        (next.object == self.object) & (next.offset as u64 == self.offset as u64 + 512 * n as u64)
+        self.advance(n) == Some(next)
     }
 }
 
 // A record of the log, by its number.
-#[derive(Clone, Copy)]
+#[derive(Clone, Copy, PartialEq, Eq, Debug)]
 pub struct Record {
     pub number: u64,
 }
@@ -76,17 +69,12 @@ impl Target for Record {
     ghost laws = { record_laws };
 
     fn advance(self, n: u32) -> Option<Record> {
-        if n as u64 <= u64::MAX - self.number {
-            Some(Record {
-                number: self.number + n as u64,
-            })
-        } else {
-            None
-        }
+        let number = self.number.checked_add(u64::from(n))?;
+        Some(Record { number })
     }
 
     fn leads_to(self, n: u32, next: Record) -> bool {
-        next.number >= self.number && next.number - self.number == n as u64
+        self.advance(n) == Some(next)
     }
 }
 
@@ -113,10 +101,6 @@ impl Ordered for Record {
     ghost climbs = { Prim.search rules };
 
     fn short_of(self, limit: Record) -> u64 {
-        if self.number < limit.number {
-            limit.number - self.number
-        } else {
-            0
-        }
+        limit.number.saturating_sub(self.number)
     }
 }

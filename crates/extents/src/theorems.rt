@@ -5,15 +5,11 @@ ghost use Rattle.extents.specs.Examples.{Examples};
 use crate::target::Target;
 
 // Each map has one writing: two tables that give every block the same target are equal.
-pub fn one_writing<T: Target>() -> u8
+pub fn one_writing<T: Target>()
     ensures { OneWriting T.Target.advanced T.Target.same }
-{
-    0
-}
+{}
 
 // The worked examples come out of the definitions.
-pub fn examples_hold() -> u8
+pub fn examples_hold()
     ensures { Examples }
-{
-    0
-}
+{}

@@ -1,39 +1,30 @@
--- Words and numbers, byte by byte. Assumes nothing.
-use Rattle.std.proofs.Common.{◌≡◌, ℕ, suc, ◌+◌, ◌-◌, ◌<◌, ◌≤◌, eqb, ltb, List, [], ◌∷◌, length, get_or, take, drop, Some, None, Option, sym, refl, ap, ◌∙◌, arith}
-use Rattle.std.proofs.lemmas.Bool.{cond-true, cond-false, eq-eqb, ne_eqb, lt-ltb, le-ltb}
-use Rattle.std.proofs.lemmas.List.{drop_more, drop_all, take_all, take_rest}
-use Rattle.maptrace.specs.Words.{before_space, word, after_space, then, with_digit, read_on, number_of}
+-- Numbers, read byte by byte. Assumes nothing.
+use Rattle.std.proofs.Common.{◌≡◌, ℕ, List, [], ◌∷◌, length, Some, None, Option, Iter, sym, refl, ap, ◌∙◌, arith}
+use Rattle.std.proofs.lemmas.Fn.{fronts}
+use Rattle.std.specs.Iterator.{Yields}
+use Rattle.std.specs.List.{FoldsTo}
+use denote.Ref.{Bor}
+use Rattle.maptrace.specs.Words.{then, with_digit, read_on, number_of}
 
-module _ (s : List ℕ) (i : ℕ) where
-  pub space_later : i < length s → (get_or s i 0 ≡ 32 → ⊥) → i + before_space (drop i s) ≡ before_space s → i + 1 + before_space (drop (i + 1) s) ≡ before_space s
-  space_later l n h =
-      let q : before_space (drop i s) ≡ suc (before_space (drop (i + 1) s)) = ap before_space (drop_more s i 0 l) ∙ cond-false (eqb (get_or s i 0) 32) 0 (suc (before_space (drop (i + 1) s))) (ne_eqb _ _ n) in
-      omega arith
+-- the turns of a `try_fold` over bytes, each of which writes a digit after the number
+module _ {F : Type 0} (turn : F × ℕ → Bor ℕ → F × ℕ → Type 0) (digit : (p q : F × ℕ) (x : Bor ℕ) → turn p x q → Some q.1 ≡ with_digit p.1 x.now) where
+  turns : (xs : List (Bor ℕ)) (s t : Iter ℕ) (p q : F × ℕ) → Yields fronts s xs t → FoldsTo turn p xs q → read_on p.1 s.rest.now ≡ read_on q.1 t.rest.now
+  turns [] s t p q y f = ap (λ (z : F × ℕ). read_on z.1 s.rest.now) f ∙ ap (λ (z : Iter ℕ). read_on q.1 z.rest.now) y
+  turns (x ∷ xs) s t p q y f =
+      ap (read_on p.1) y.1
+      ∙ ap (λ o. then o (λ m. read_on m y.0.rest.now)) (sym (digit p f.0 x f.1))
+      ∙ turns xs y.0 t f.0 q y.2 f.2
 
-  pub space_here : i < length s → get_or s i 0 ≡ 32 → i + before_space (drop i s) ≡ before_space s → i ≡ before_space s
-  space_here l n h =
-      let q : before_space (drop i s) ≡ 0 = ap before_space (drop_more s i 0 l) ∙ cond-true (eqb (get_or s i 0) 32) 0 (suc (before_space (drop (i + 1) s))) (eq-eqb _ _ n) in
-      omega arith
+  none_left : (n : ℕ) (bs : List ℕ) → length bs ≡ 0 → Some n ≡ read_on n bs
+  none_left n [] l = refl
+  none_left n (b ∷ bs) l = absurd (omega arith)
 
-  pub space_none : length s ≤ i → i + before_space (drop i s) ≡ before_space s → i ≡ before_space s
-  space_none l h = let q : before_space (drop i s) ≡ 0 = ap before_space (drop_all i s l) in omega arith
-
-  module _ (q : i ≡ before_space s) where
-    pub cut_rest : i < length s → Some (take (length s - (i + 1)) (drop (i + 1) s)) ≡ after_space s
-    cut_rest l =
-        ap Some (take_rest s (i + 1))
-        ∙ ap (λ k. Some (drop (k + 1) s)) q
-        ∙ sym (cond-true (ltb (before_space s) (length s)) (Some (drop (before_space s + 1) s)) None (lt-ltb _ _ (omega arith)))
-
-    pub cut_all : length s ≤ i → s ≡ word s
-    cut_all l = sym (take_all (before_space s) s (omega arith))
-
-    pub cut_none : length s ≤ i → None ≡ after_space s
-    cut_none l = sym (cond-false (ltb (before_space s) (length s)) (Some (drop (before_space s + 1) s)) None (le-ltb _ _ (omega arith)))
-
-module _ (w : List ℕ) (i n : ℕ) (o : Option ℕ) (l : i < length w) (q : o ≡ with_digit n (get_or w i 0)) (h : read_on n (drop i w) ≡ read_on 0 w) where
-  pub read_all : then o (λ m. read_on m (drop (i + 1) w)) ≡ read_on 0 w
-  read_all = ap (λ p. then p (λ m. read_on m (drop (i + 1) w))) q ∙ sym (ap (read_on n) (drop_more w i 0 l)) ∙ h
+  -- the whole: it ends with the last byte, or at one that is no digit or too much
+  pub read_all : (xs : List (Bor ℕ)) (o : Option (Bor ℕ)) (s t u : Iter ℕ) (p q : F × ℕ) (r : Option ℕ) → Yields fronts s xs t → fronts t o u → FoldsTo turn p xs q → (o ≡ None → r ≡ Some q.1) → ((x : Bor ℕ) → o ≡ Some x → (None ≡ with_digit q.1 x.now) × (r ≡ None)) → r ≡ read_on p.1 s.rest.now
+  read_all xs None s t u p q r y e f g h = g refl ∙ none_left q.1 t.rest.now e.0 ∙ sym (turns xs s t p q y f)
+  read_all xs (Some x) s t u p q r y e f g h =
+      let k = h x refl in
+      k.1 ∙ ap (λ o. then o (λ m. read_on m u.rest.now)) k.0 ∙ sym (ap (read_on q.1) e) ∙ sym (turns xs s t p q y f)
 
 pub number_read : (w : List ℕ) → (length w ≡ 0 → ⊥) → read_on 0 w ≡ number_of w
 number_read [] h = absurd (h refl)

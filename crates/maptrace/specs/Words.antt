@@ -1,10 +1,10 @@
 -- A line's words and numbers. Assumes nothing.
-use Rattle.std.specs.Prelude.{ℕ, suc, ◌+◌, ◌-◌, ◌*◌, ◌^◌, cond, ◌&&◌, List, [], ◌∷◌, length, take, drop, Some, None, Option, ◌==◌, nat_le, nat_lt}
+use Rattle.std.specs.List.{position_or_len}
+use Rattle.std.specs.Prelude.{ℕ, ◌+◌, ◌-◌, ◌*◌, ◌^◌, cond, ◌&&◌, List, [], ◌∷◌, length, take, drop, Some, None, Option, ◌==◌, nat_le, nat_lt}
 
 -- How many bytes stand before a line's first space.
 abbrev pub before_space : List ℕ → ℕ
-before_space [] = 0
-before_space (b ∷ bs) = cond (b == 32) 0 (suc (before_space bs))
+before_space = position_or_len (λ b. b == 32)
 
 -- A line's first word.
 abbrev pub word : List ℕ → List ℕ

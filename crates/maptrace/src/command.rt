@@ -1,14 +1,15 @@
 // The commands, and how a line writes one.
+use extents::{Extent, Place, Record};
 
 // What a line asks for.
-#[derive(Clone, Copy)]
+#[derive(Clone, Copy, PartialEq, Eq, Debug)]
 pub enum Command {
     // `insert FIRST LENGTH OBJECT OFFSET`: blocks get the places from an offset in an object on.
-    Insert(u32, u32, u32, u32),
+    Insert(Extent<Place>),
     // `record FIRST LENGTH NUMBER`: blocks get the records from a number on.
-    Record(u32, u32, u32),
+    Record(Extent<Record>),
     // `drop NUMBER`: the records below a number are taken away.
-    Drop(u32),
+    Drop(Record),
     // `lookup BLOCK`: a block's place and record.
     Lookup(u32),
 }

@@ -1,22 +1,17 @@
 // A line's words and numbers.
-ghost use Rattle.std.specs.Prelude.{◌≡◌, ℕ, ◌≤◌, length};
+ghost use Rattle.std.specs.Prelude.{◌≡◌, ◌==◌, position};
 ghost use Rattle.std.specs.Option.{option_map};
-ghost use Rattle.maptrace.specs.Words.{before_space, word, after_space, with_digit, number_of};
+ghost use Rattle.maptrace.specs.Words.{word, after_space, with_digit, number_of};
 
 mod parse;
 
 pub use parse::parse;
 
-// How many bytes stand before the first space.
-fn first_len(s: &[u8]) -> usize
-    ensures value { result ≡ before_space s.now }
-    ensures bound { result ≤ length s.now }
+// How many bytes stand before the first space, if there is one.
+fn first_space(s: &[u8]) -> Option<usize>
+    ensures { result ≡ position (λ b. b == 32) s.now }
 {
-    let mut n = 0;
-    while n < s.len() && s[n] != b' ' {
-        n += 1;
-    }
-    n
+    s.iter().position(|b| *b == b' ')
 }
 
 // The first word, and what follows its space, if there is a space.
@@ -24,11 +19,9 @@ fn cut(s: &[u8]) -> (&[u8], Option<&[u8]>)
     ensures first { result.0.now ≡ word s.now }
     ensures rest { option_map (λ t. t.now) result.1 ≡ after_space s.now }
 {
-    let n = first_len(s);
-    if n < s.len() {
-        (&s[..n], Some(&s[n + 1..]))
-    } else {
-        (s, None)
+    match first_space(s) {
+        Some(n) => (&s[..n], Some(&s[n + 1..])),
+        None => (s, None),
     }
 }
 
@@ -36,12 +29,10 @@ fn cut(s: &[u8]) -> (&[u8], Option<&[u8]>)
 fn with_digit(n: u32, b: u8) -> Option<u32>
     ensures { result ≡ with_digit n b }
 {
-    if 48 <= b && b <= 57 {
-        let m = 10 * n as u64 + (b - 48) as u64;
-        if m < 4294967296 { Some(m as u32) } else { None }
-    } else {
-        None
+    if !b.is_ascii_digit() {
+        return None;
     }
+    n.checked_mul(10)?.checked_add(u32::from(b - b'0'))
 }
 
 // The number that a word writes.
@@ -51,12 +42,5 @@ fn number(w: &[u8]) -> Option<u32>
     if w.is_empty() {
         return None;
     }
-    let mut n: u32 = 0;
-    for b in w {
-        let Some(m) = with_digit(n, *b) else {
-            return None;
-        };
-        n = m;
-    }
-    Some(n)
+    w.iter().try_fold(0, |n, b| with_digit(n, *b))
 }

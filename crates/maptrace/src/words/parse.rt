@@ -1,18 +1,12 @@
 // How a line writes a command.
 ghost use Rattle.std.specs.Prelude.{◌≡◌};
 ghost use Rattle.std.specs.Option.{option_map};
-ghost use Rattle.std.specs.Str.{bytes_eq};
+ghost use Rattle.extents.specs.Kinds.{recorded};
 ghost use Rattle.maptrace.specs.Commands.{first_number, only_number, insert_of, record_of, asked};
 
 use super::{cut, number};
 use crate::command::Command;
-
-// Whether two words are the same.
-fn same(a: &[u8], b: &[u8]) -> bool
-    ensures { result ≡ bytes_eq a.now b.now }
-{
-    a == b
-}
+use extents::{Extent, Place, Record};
 
 // The number that the text begins with, and what follows its space.
 fn first<'a>(s: Option<&'a [u8]>) -> Option<(u32, Option<&'a [u8]>)>
@@ -31,6 +25,14 @@ fn only(s: Option<&[u8]>) -> Option<u32>
     if rest.is_some() { None } else { Some(n) }
 }
 
+// The record whose number the text is.
+fn record(s: Option<&[u8]>) -> Option<Record>
+    ensures { result ≡ option_map recorded (only_number (option_map (λ t. t.now) s.entry)) }
+{
+    let number = u64::from(only(s)?);
+    Some(Record { number })
+}
+
 // The four numbers of an insertion.
 fn insertion(s: Option<&[u8]>) -> Option<Command>
     ensures { result ≡ insert_of (option_map (λ t. t.now) s.entry) }
@@ -39,7 +41,11 @@ fn insertion(s: Option<&[u8]>) -> Option<Command>
     let (length, s) = first(s)?;
     let (object, s) = first(s)?;
     let offset = only(s)?;
-    Some(Command::Insert(start, length, object, offset))
+    Some(Command::Insert(Extent {
+        first: start,
+        length,
+        target: Place { object, offset },
+    }))
 }
 
 // The three numbers of a run of records.
@@ -48,8 +54,12 @@ fn recording(s: Option<&[u8]>) -> Option<Command>
 {
     let (start, s) = first(s)?;
     let (length, s) = first(s)?;
-    let number = only(s)?;
-    Some(Command::Record(start, length, number))
+    let target = record(s)?;
+    Some(Command::Record(Extent {
+        first: start,
+        length,
+        target,
+    }))
 }
 
 // What a line asks for, if it is a command.
@@ -57,16 +67,14 @@ pub fn parse(line: &[u8]) -> Option<Command>
     ensures { result ≡ asked line.now }
 {
     let (verb, rest) = cut(line);
-    if same(verb, b"insert") {
+    if verb == b"insert".as_slice() {
         insertion(rest)
-    } else if same(verb, b"record") {
+    } else if verb == b"record".as_slice() {
         recording(rest)
-    } else if same(verb, b"drop") {
-        let n = only(rest)?;
-        Some(Command::Drop(n))
-    } else if same(verb, b"lookup") {
-        let n = only(rest)?;
-        Some(Command::Lookup(n))
+    } else if verb == b"drop".as_slice() {
+        Some(Command::Drop(record(rest)?))
+    } else if verb == b"lookup".as_slice() {
+        Some(Command::Lookup(only(rest)?))
     } else {
         None
     }

@@ -1,6 +1,5 @@
-use Rattle.std.proofs.Common.{[], length, sym, ap, ◌∙◌, arith}
+use Rattle.std.proofs.Common.{length, sym, ap, ◌∙◌, arith}
 use lib.Seq.{paste}
-use Rattle.std.proofs.lemmas.List.Edits.{paste_none}
 use Rattle.extents.specs.Steps.{listed}
 use Rattle.extents.proofs.Splice.{set_pastes}
 use Rattle.extents.proofs.table.write_held.Goals as goal
@@ -8,15 +7,4 @@ use Rattle.extents.proofs.table.write_held.Goals as goal
 pub returns-in-Some : goal.returns-in-Some
 returns-in-Some g c =
     let n = ap (λ o. length (listed o)) c.in-Some.is in
-    record {
-      next = omega arith;
-      after = set_pastes c.args.s.now c.args.at c.in-Some.v (omega arith) ∙ ap (λ o. paste c.args.s.now c.args.at (listed o) (length (listed o))) (sym c.in-Some.is);
-    }
-
-pub returns-in-None : goal.returns-in-None
-returns-in-None g c =
-    let n = ap (λ o. length (listed o)) c.in-None.is in
-    record {
-      next = omega arith;
-      after = paste_none c.args.s.now c.args.at [] ∙ ap (λ o. paste c.args.s.now c.args.at (listed o) (length (listed o))) (sym c.in-None.is);
-    }
+    set_pastes c.args.s.now c.args.at c.in-Some.v (omega arith) ∙ ap (λ o. paste c.args.s.now c.args.at (listed o) (length (listed o))) (sym c.in-Some.is)
