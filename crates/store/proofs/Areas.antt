@@ -1,5 +1,5 @@
 -- Bytes of an area that are written or moved.
-use Rattle.std.proofs.Common.{◌≡◌, ℕ, ◌+◌, ◌-◌, ◌≤◌, List, ◌++◌, length, take, drop, refl, ap, ◌∙◌, arith}
+use Rattle.std.proofs.Common.{◌≡◌, ℕ, ◌+◌, ◌-◌, ◌≤◌, List, ◌++◌, length, take, drop, ap, ◌∙◌, arith}
 use borrow.Rule.Slice.PartMut.{post_of}
 use lib.Seq.{paste}
 use Rattle.std.proofs.lemmas.List.{length-append, length-drop, length-take, length-take-le, take_at, drop_at, drop-drop, append_assoc}
@@ -12,13 +12,6 @@ written xs ys d z bs n at k e hn hd hz hk he h =
     let x : take at d ++ (z ++ post_of at (e - at) d) ≡ take at xs ++ (bs ++ drop (at + k) xs) = cc in
     let l : length (take at xs ++ (bs ++ drop (at + k) xs)) ≡ n = simp (length-append, length-take, length-drop) (omega arith) in
     take_at (take at d ++ (z ++ post_of at (e - at) d)) (drop (length (take at d ++ (z ++ post_of at (e - at) d))) ys) n (ap length x ∙ l) ∙ x
-
--- the area before, at and after bytes that were written
-pub before_written : (xs bs ys : List ℕ) (at : ℕ) → at ≤ length xs → take at (take at xs ++ (bs ++ ys)) ≡ take at xs
-before_written xs bs ys at h = take_at (take at xs) (bs ++ ys) at (length-take-le at xs h)
-
-pub at_written : (xs bs ys : List ℕ) (at : ℕ) → at ≤ length xs → take (length bs) (drop at (take at xs ++ (bs ++ ys))) ≡ bs
-at_written xs bs ys at h = ap (take (length bs)) (drop_at (take at xs) (bs ++ ys) at (length-take-le at xs h)) ∙ take_at bs ys (length bs) refl
 
 -- the area after what lay behind a hole has moved up
 pub closed_front : (a : List ℕ) (start : ℕ) (s : List ℕ) (n : ℕ) → start ≤ length a → take start (paste a start s n) ≡ take start a

@@ -4,11 +4,11 @@ use Rattle.std.specs.List.{remove}
 use Rattle.std.proofs.lemmas.List.{length-append}
 use Rattle.store.specs.declared.directory.Entry.{Entry}
 use Rattle.store.specs.Views.{bytes_of}
-use Rattle.store.specs.Calls.{Lands, deleting, vanishing, lawful_length}
+use Rattle.store.specs.Calls.{Lands, deleting, vanishing}
 use Rattle.store.specs.Items.{landed_of, view}
 use Rattle.store.specs.Entries.{items, total, waits, tidy, risen, blank, Listed}
 use Rattle.store.proofs.Entered.{total_append, waits_append}
-use Rattle.store.proofs.Tidy.{split_at, tidy_risen, tidy_removed, tidy_length}
+use Rattle.store.proofs.Tidy.{split_at, tidy_risen, tidy_removed}
 use Rattle.store.proofs.Moves.{land_move, delete_move, vanish_move, found_bytes}
 
 -- the entry at a place
@@ -37,9 +37,6 @@ length_split es i h = ap length (split_at es i blank h) ∙ length-append (take 
 tidy_split : (es : List Entry) (i : ℕ) → i < length es → tidy es ≡ true → tidy (take i es ++ here es i ∷ drop (suc i) es) ≡ true
 tidy_split es i h t = ap tidy (sym (split_at es i blank h)) ∙ t
 
-pub lawful_here : (es : List Entry) (i : ℕ) → i < length es → tidy es ≡ true → lawful_length (here es i).length ≡ true
-lawful_here es i h t = tidy_length (take i es) (here es i) (drop (suc i) es) (tidy_split es i h t)
-
 pub some_waits : (es : List Entry) (i waiting : ℕ) → i < length es → (here es i).landed ≡ false → Listed es waiting → 1 ≤ waiting
 some_waits es i waiting h f l =
     let p : cond {A = ℕ} (here es i).landed 0 1 ≡ 1 = ap (λ z. cond {A = ℕ} z 0 1) f in
@@ -60,9 +57,6 @@ listed_risen es fs i waiting h f q l =
 pub total_risen : (f : ℕ → ℕ) (es fs : List Entry) (i : ℕ) → i < length es → fs ≡ with_risen es i → total f fs ≡ total f es
 total_risen f es fs i h q = ap (total f) q ∙ total_around f (take i es) (risen (here es i)) (drop (suc i) es) ∙ sym (total_split f es i h)
 
-pub length_risen : (es fs : List Entry) (i : ℕ) → i < length es → fs ≡ with_risen es i → length fs ≡ length es
-length_risen es fs i h q = ap length q ∙ length-append (take i es) (risen (here es i) ∷ drop (suc i) es) ∙ sym (length_split es i h)
-
 pub listed_removed : (es fs : List Entry) (i waiting waiting' : ℕ) → i < length es → fs ≡ remove es i → waiting' + waits (here es i ∷ []) ≡ waiting → Listed es waiting → Listed fs waiting'
 listed_removed es fs i waiting waiting' h q n l =
     let w = waits_split es i h in
@@ -76,12 +70,6 @@ pub total_removed : (f : ℕ → ℕ) (es fs : List Entry) (i : ℕ) → i < len
 total_removed f es fs i h q =
     let a : total f fs ≡ total f (take i es) + total f (drop (suc i) es) = ap (total f) q ∙ total_append f (take i es) (drop (suc i) es) in
     let b = total_split f es i h in
-    omega arith
-
-pub length_gone : (es fs : List Entry) (i : ℕ) → i < length es → fs ≡ remove es i → length fs + 1 ≡ length es
-length_gone es fs i h q =
-    let a : length fs ≡ length (take i es) + length (drop (suc i) es) = ap length q ∙ length-append (take i es) (drop (suc i) es) in
-    let b = length_split es i h in
     omega arith
 
 module _ (room : ℕ → ℕ) (roomy : (n : ℕ) → n ≤ room n) (w : ℕ → ℕ) (c : ℕ) where

@@ -1,10 +1,10 @@
 -- A cut, one pending put after another.
-use Rattle.std.proofs.Common.{◌≡◌, ℕ, zero, suc, ◌/◌, ◌%◌, ◌<◌, Bool, true, false, cond, eqb, List, [], ◌∷◌, length, get_or, Some, None, Option, sym, refl, ap, ◌∙◌, subst, rules}
+use Rattle.std.proofs.Common.{◌≡◌, ℕ, zero, suc, ◌/◌, ◌%◌, ◌<◌, Bool, true, false, cond, eqb, List, [], ◌∷◌, length, get_or, sym, refl, ap, ◌∙◌, subst, rules}
 use Rattle.std.specs.List.{remove}
 use Rattle.std.proofs.lemmas.Bool.{eq-eqb, ne_eqb}
 use Rattle.std.proofs.lemmas.List.{nil_from_length}
 use Rattle.store.specs.Views.{Object, nothing, StoreView, holding, place_all, chosen, bits}
-use Rattle.store.specs.Calls.{Lands, landing, vanishing, settling, CutBy, CutTo, Polled, PolledAt}
+use Rattle.store.specs.Calls.{Lands, landing, vanishing, settling, CutBy, CutTo}
 
 first_of : (ps : List Object) → 0 < length ps → ps ≡ get_or ps 0 nothing ∷ remove ps 0
 first_of [] h = search rules
@@ -49,10 +49,6 @@ length_bits s (suc n) = ap suc (length_bits (s / 2) n)
 
 pub cut_to : (s : ℕ) (v w : StoreView) → CutBy s v w → CutTo v w
 cut_to s v w h = record { choices = bits s (length v.pending); each = length_bits s (length v.pending); after = h }
-
-pub polled_from : (i : ℕ) (v : StoreView) (r : Option ℕ) (w : StoreView) → PolledAt i v r w → Polled v r w
-polled_from i v None w h = h
-polled_from i v (Some n) w h = record { which = i; lands = h }
 
 -- the same, from where a step has come to
 pub cut_on_lands : (v x y w : StoreView) (b k n : ℕ) → x ≡ y → Lands v k n y → k ≡ 0 → b % 2 ≡ 1 → CutBy (b / 2) x w → CutBy b v w

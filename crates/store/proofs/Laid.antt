@@ -6,7 +6,7 @@ use Rattle.std.proofs.lemmas.Bool.{and_parts, and_from, ltb-true, eqb-false, cas
 use Rattle.std.specs.List.{range_with_len}
 use Rattle.std.proofs.lemmas.List.FromFn.{map-range_with_len_more}
 use Rattle.std.proofs.lemmas.List.{length-append, length-drop, length-take-le, take_at, drop_at, drop-drop, drop-take, take-take, take-append-drop, append_assoc, take-append-le, drop-append-le, drop_more, take_all, map-id}
-use Rattle.store.specs.PagedSound.{page, laid, copies, below}
+use Rattle.store.specs.PagedSound.{page, laid, copies, below, length_page, length_laid}
 
 pub laid_append : (a ps qs : List ℕ) → laid a (ps ++ qs) ≡ laid a ps ++ laid a qs
 laid_append a [] qs = refl
@@ -19,17 +19,6 @@ copies_append p (x ∷ xs) ys = let ih = copies_append p xs ys in omega arith
 pub below_append : (n : ℕ) (xs ys : List ℕ) → below n (xs ++ ys) ≡ (below n xs && below n ys)
 below_append n [] ys = refl
 below_append n (x ∷ xs) ys = let ih = below_append n xs ys in grind (arith, nat_tests)
-
-pub length_page : (a : List ℕ) (p n : ℕ) → p < n → length a ≡ 1024 * n → length (page a p) ≡ 1024
-length_page a p n h e = length-take-le 1024 (drop (1024 * p) a) (simp length-drop (omega arith))
-
-pub length_laid : (a ps : List ℕ) (n : ℕ) → below n ps ≡ true → length a ≡ 1024 * n → length (laid a ps) ≡ 1024 * length ps
-length_laid a [] n b e = refl
-length_laid a (p ∷ ps) n b e =
-    let q = and_parts (ltb p n) (below n ps) b in
-    let ih = length_laid a ps n q.1 e in
-    let l = length_page a p n (ltb-true p n q.0) e in
-    length-append (page a p) (laid a ps) ∙ omega arith
 
 -- pages that are not written stay
 pub laid_else : (a b ps : List ℕ) (p : ℕ) → copies p ps ≡ 0 → ((q : ℕ) → (q ≡ p → ⊥) → page b q ≡ page a q) → laid b ps ≡ laid a ps

@@ -3,13 +3,12 @@ pub mod Listing
 pub mod Entered
 pub mod Tidy
 pub mod Moves
-pub mod Scans
 pub mod Areas
 pub mod Changes
+pub mod Scans
 pub mod Admission
-pub mod PackedMoves
+pub mod Holding
 pub mod Cuts
 pub mod Answered
 pub mod Laid
 pub mod PageSteps
-pub mod PagedMoves

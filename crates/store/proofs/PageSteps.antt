@@ -1,12 +1,13 @@
 -- One step of writing or reading pages.
-use Rattle.std.proofs.Common.{◌≡◌, ℕ, ◌+◌, ◌-◌, ◌*◌, ◌/◌, ◌%◌, ◌<◌, ◌≤◌, true, ◌&&◌, List, [], ◌++◌, length, get_or, take, drop, sym, ap, ◌∙◌, arith, take-add}
+use Rattle.std.proofs.Common.{◌≡◌, ℕ, ◌+◌, ◌-◌, ◌*◌, ◌/◌, ◌%◌, ◌<◌, ◌≤◌, min, true, ◌&&◌, List, [], ◌∷◌, ◌++◌, length, get_or, take, drop, sym, refl, ap, ◌∙◌, ⊎_elim, arith, take-add}
 use borrow.Rule.Slice.PartMut.{post_of}
 use lib.Seq.{paste}
-use Rattle.std.proofs.lemmas.Bool.{and_parts, and_from}
+use Rattle.std.proofs.lemmas.Bool.{and_parts, and_from, cases_lt}
 use Rattle.std.proofs.lemmas.List.Edits.{paste-paste}
-use Rattle.std.proofs.lemmas.List.{length-append, length-drop, length-take, length-take-le, take_at, drop_at, drop-drop, take-append-drop, append_assoc, append-nil, take_rest, drop_all, take-append-le}
-use Rattle.store.specs.PagedSound.{laid, copies, below, GivenOnce}
-use Rattle.store.proofs.Laid.{length_laid, laid_read, laid_write, laid_append, laid_take, laid_drop, copies_append, below_append}
+use Rattle.std.proofs.lemmas.List.{length-append, length-drop, length-take, length-take-le, take_at, drop_at, drop-drop, take-append-drop, append_assoc, append-nil, take_rest, drop_all, take-append-le, take-take, take_all, get_or-drop}
+use Rattle.store.specs.Entries.{Begins}
+use Rattle.store.specs.PagedSound.{paged_room, laid, copies, below, GivenOnce, PagedArea, length_laid, room_total}
+use Rattle.store.proofs.Laid.{laid_read, laid_write, laid_append, laid_take, laid_drop, copies_append, below_append}
 
 pub read_step : (area order out₀ out out' : List ℕ) (at done count p : ℕ) → below (length order) order ≡ true → length area ≡ 1024 * length order → at + length out₀ ≤ 1024 * length order → done < length out₀ → length out ≡ length out₀
     → out ≡ take done (drop at (laid area order)) ++ drop done out₀ → count ≤ length out₀ - done → (at + done) % 1024 + count ≤ 1024 → p ≡ get_or order ((at + done) / 1024) 0
@@ -86,9 +87,6 @@ moved_below ps qs at count n q b =
     let c : below n (z ++ y) ≡ true = below_append n z y ∙ and_from (below n z) (below n y) a₂.1 a₂.0 in
     ap (below n) q ∙ below_append n x (z ++ y) ∙ and_from (below n x) (below n (z ++ y)) a₁.0 c
 
-pub length_moved : (ps : List ℕ) (at count : ℕ) → at + count ≤ length ps → length (moved ps at count) ≡ length ps
-length_moved ps at count h = simp (length-append, length-take, length-drop) (omega arith)
-
 below_drop : (n q : ℕ) (ps : List ℕ) → below n ps ≡ true → below n (drop q ps) ≡ true
 below_drop n q ps b = (and_parts (below n (take q ps)) (below n (drop q ps)) (sym (below_append n (take q ps) (drop q ps)) ∙ ap (below n) (take-append-drop q ps) ∙ b)).1
 
@@ -124,3 +122,88 @@ copied out area z at start count h =
     let x : z ≡ take count (drop start area) = h ∙ ap (λ t. take t (drop start area)) k in
     let y : post_of at (at + count - at) out ≡ drop (at + count) out = drop-drop (at + count - at) at out ∙ ap (λ t. drop t out) m in
     ap (λ t. take at out ++ (t ++ post_of at (at + count - at) out)) x ∙ ap (λ t. take at out ++ (take count (drop start area) ++ t)) y
+
+-- objects begin at pages
+pub begins_page : (at : ℕ) → Begins paged_room at → 1024 * (at / 1024) ≡ at
+begins_page at b = let t = room_total b.objects in let e = b.ends in omega arith
+
+-- the sizes of the pages of a store
+pub record Sizes (order area : List ℕ) : Type 0 where
+  pub long : length area ≡ 1024 * length order
+  pub all : below (length order) order ≡ true
+  pub laid : length (laid area order) ≡ 1024 * length order
+
+pub sizes : (order area : List ℕ) (count long : ℕ) → count ≡ length order → long ≡ length area → PagedArea order count long → Sizes order area
+sizes order area count long c l b =
+    let x = b.3 in
+    let a : length area ≡ 1024 * length order = omega arith in
+    let w : below (length order) order ≡ true = ap (λ z. below z order) (sym c) ∙ b.0 in
+    record { long = a; all = w; laid = length_laid area order (length order) w a }
+
+-- what lies behind pages that were moved lies where they began
+pub moved_up : (a ps qs : List ℕ) (at room end count : ℕ) → Sizes ps a → qs ≡ moved ps (at / 1024) count → 1024 * (at / 1024) ≡ at → room ≡ 1024 * count → at + room ≤ end → end ≤ length (laid a ps)
+    → take (end - (at + room)) (drop at (laid a qs)) ≡ take (end - (at + room)) (drop (at + room) (laid a ps))
+moved_up a ps qs at room end count z q g r h k =
+    let rest = length ps - (at / 1024 + count) in
+    let s = z.laid in
+    let n = end - (at + room) in
+    let w : n ≤ 1024 * rest = omega arith in
+    let x = moved_back a ps qs (length ps) (at / 1024) count rest q z.all z.long (omega arith) in
+    let y : take (1024 * rest) (drop at (laid a qs)) ≡ take (1024 * rest) (drop (at + room) (laid a ps)) =
+    ap (λ t. take (1024 * rest) (drop t (laid a qs))) (sym g) ∙ x ∙ ap (take (1024 * rest)) (drop-drop (1024 * count) (1024 * (at / 1024)) (laid a ps)) ∙ ap (λ t. take (1024 * rest) (drop t (laid a ps))) (omega arith) in
+    sym (take-take n (1024 * rest) (drop at (laid a qs)) w) ∙ ap (take n) y ∙ take-take n (1024 * rest) (drop (at + room) (laid a ps)) w
+
+-- the next part of some bytes, and the page that it goes to
+pub record Part (bytes order ch : List ℕ) (first k p : ℕ) (parts pages : List ℕ) : Type 0 where
+  pub more : 1024 * k < length bytes
+  pub place : first + k < length order
+  pub part : ch ≡ take (length ch) (drop (1024 * k) bytes)
+  pub short : length ch ≤ 1024
+  pub fits : 1024 * k + length ch ≤ length bytes
+  pub so_far : take (1024 * k + length ch) bytes ≡ take (1024 * (k + 1)) bytes
+  pub page : p ≡ get_or order (first + k) 0
+  pub others : parts ≡ drop (1024 * (k + 1)) bytes
+  pub behind : pages ≡ drop (first + (k + 1)) order
+
+pub part_taken : (bytes order xs ys ch parts pages : List ℕ) (first k p : ℕ) → xs ≡ drop (1024 * k) bytes → ys ≡ drop (first + k) order → xs ≡ ch ++ parts → length ch ≡ min 1024 (length xs) → 0 < length xs → ys ≡ p ∷ pages
+    → Part bytes order ch first k p parts pages
+part_taken bytes order xs ys ch parts pages first k p x y e l m q =
+    let lx : length xs ≡ length bytes - 1024 * k = ap length x ∙ length-drop (1024 * k) bytes in
+    let ly : length (p ∷ pages) ≡ length order - (first + k) = ap length (sym q ∙ y) ∙ length-drop (first + k) order in
+    let f : ch ++ parts ≡ drop (1024 * k) bytes = sym e ∙ x in
+    let g : p ∷ pages ≡ drop (first + k) order = sym q ∙ y in
+    let t : ch ≡ take (length ch) (drop (1024 * k) bytes) = sym (take_at ch parts (length ch) refl) ∙ ap (take (length ch)) f in
+    let d : parts ≡ drop (1024 * k + length ch) bytes = sym (drop_at ch parts (length ch) refl) ∙ ap (drop (length ch)) f ∙ drop-drop (length ch) (1024 * k) bytes in
+    let past : length ch < 1024 → length bytes ≤ 1024 * k + length ch = λ z. omega arith in
+    let n : 1024 * k + 1024 ≡ 1024 * (k + 1) = omega arith in
+    let whole : 1024 ≤ length ch → 1024 * k + length ch ≡ 1024 * (k + 1) = λ z. omega arith in
+    let s : take (1024 * k + length ch) bytes ≡ take (1024 * (k + 1)) bytes =
+    ⊎_elim (λ z. take_all (1024 * k + length ch) bytes (past z) ∙ sym (take_all (1024 * (k + 1)) bytes (omega (arith, past z)))) (λ z. ap (λ w. take w bytes) (whole z)) (cases_lt (length ch) 1024) in
+    let o : drop (1024 * k + length ch) bytes ≡ drop (1024 * (k + 1)) bytes =
+    ⊎_elim (λ z. drop_all (1024 * k + length ch) bytes (past z) ∙ sym (drop_all (1024 * (k + 1)) bytes (omega (arith, past z)))) (λ z. ap (λ w. drop w bytes) (whole z)) (cases_lt (length ch) 1024) in
+    let a : first + k + 1 ≡ first + (k + 1) = omega arith in
+    record {
+      more = omega arith;
+      place = omega arith;
+      part = t;
+      short = omega arith;
+      fits = omega arith;
+      so_far = s;
+      page = ap (λ z. get_or z 0 0) g ∙ get_or-drop (first + k) order 0 0 ∙ ap (λ z. get_or order z 0) (omega arith);
+      others = d ∙ o;
+      behind = ap (drop 1) g ∙ drop-drop 1 (first + k) order ∙ ap (λ z. drop z order) a;
+    }
+
+-- a part is written to its page
+pub part_written : (a₀ a b order bytes ch : List ℕ) (first k p : ℕ) (parts pages : List ℕ) → Part bytes order ch first k p parts pages → below (length order) order ≡ true → length a ≡ 1024 * length order → length a₀ ≡ 1024 * length order → GivenOnce order
+    → 1024 * first + length bytes ≤ 1024 * length order
+    → laid a order ≡ paste (laid a₀ order) (1024 * first) (take (1024 * k) bytes) (length (take (1024 * k) bytes))
+    → b ≡ take (1024 * p) a ++ (ch ++ drop (1024 * p + length ch) a)
+    → laid b order ≡ paste (laid a₀ order) (1024 * first) (take (1024 * (k + 1)) bytes) (length (take (1024 * (k + 1)) bytes))
+part_written a₀ a b order bytes ch first k p parts pages z w e e₀ once f inv hb =
+    let m = z.more in
+    let s = z.so_far in
+    let l : length (take (1024 * k) bytes) ≡ 1024 * k = length-take-le (1024 * k) bytes (omega arith) in
+    let n : length (take (1024 * (k + 1)) bytes) ≡ 1024 * k + length ch = ap length (sym s) ∙ length-take-le (1024 * k + length ch) bytes z.fits in
+    let x = write_step a₀ a b order bytes ch first (first + k) (1024 * k) (length ch) p w e e₀ once f m (omega arith) z.short z.fits z.page z.part (inv ∙ ap (paste (laid a₀ order) (1024 * first) (take (1024 * k) bytes)) l) hb in
+    x ∙ ap (λ y. paste (laid a₀ order) (1024 * first) y (1024 * k + length ch)) s ∙ ap (paste (laid a₀ order) (1024 * first) (take (1024 * (k + 1)) bytes)) (sym n)

@@ -1,69 +1,88 @@
--- One step of a walk through a directory.
-use Rattle.std.proofs.Common.{◌≡◌, ℕ, ◌+◌, ◌<◌, ◌≤◌, true, false, cond, ◌&&◌, ◌||◌, eqb, List, [], ◌∷◌, length, get_or, take, drop, Some, None, Option, sym, refl, ap, ◌∙◌, arith}
-use Rattle.std.proofs.lemmas.Bool.{eq-eqb, ne_eqb}
-use Rattle.std.proofs.lemmas.List.{at_drop_more, at_drop_all, take_more, take_all, take-append-drop}
+-- What a walk through a directory answers.
+use Rattle.std.proofs.Common.{◌≡◌, ℕ, suc, ◌+◌, ◌<◌, ◌≤◌, min, Bool, true, false, cond, not, ◌&&◌, ◌||◌, eqb, leb, List, [], ◌∷◌, map, length, take, drop, Some, None, Option, Result, sym, refl, ap, ◌∙◌, subst, arith}
+use Rattle.std.specs.Int.{from_bool}
+use Rattle.std.specs.List.{list_any, All, filter, fold, reduce, AllWithin, HoldsAt}
+use Rattle.std.specs.Option.{MatchOption, ok_or}
+use Rattle.std.proofs.lemmas.Bool.Decides.{nat_tests}
+use Rattle.std.proofs.lemmas.List.{take-append-drop, get_or-take, get_or-drop, length-take, length-drop}
+use Rattle.std.proofs.lemmas.List.Recursion.{same_from_clauses, or_from_places}
 use Rattle.store.specs.declared.directory.Entry.{Entry}
-use Rattle.store.specs.Entries.{blank, total, waits, named, stored, offer, lowest}
+use Rattle.store.specs.declared.fault.StoreFault.{StoreFault}
+use Rattle.store.specs.declared.fault.StoreFault.TheVariants.{Absent}
+use Rattle.store.specs.Calls.{oldest_turn, newest_turn}
+use Rattle.store.specs.Entries.{blank, total, waits, named, stored, lowest, Found, IsNext}
 use Rattle.store.specs.Views.{lower}
-use Rattle.store.proofs.Placing.{lower_assoc}
-use Rattle.store.proofs.Entered.{waits_append, total_append}
+use Rattle.store.proofs.Entered.{total_append}
+use Rattle.store.proofs.Changes.{here, waits_split}
 
-pub named_here : (xs : List Entry) (i n : ℕ) → i < length xs → (get_or xs i blank).number ≡ n → named (drop i xs) n ≡ named xs n → true ≡ named xs n
-named_here xs i n h t inv =
-    let a : named (drop i xs) n ≡ (eqb (get_or xs i blank).number n || named (drop (i + 1) xs) n) = at_drop_more (λ l. named l n) xs i blank h in
-    let b = eq-eqb (get_or xs i blank).number n t in
-    cc
+-- an entry has the number where some entry does
+pub named_is : (es : List Entry) (n : ℕ) → list_any (λ e. eqb e.number n) es ≡ named es n
+named_is es n = same_from_clauses (list_any (λ (e : Entry). eqb e.number n)) (λ xs. named xs n) (λ e b. eqb e.number n || b) refl (λ _ _. refl) (λ _ _. refl) es
 
-pub named_on : (xs : List Entry) (i n : ℕ) → i < length xs → ((get_or xs i blank).number ≡ n → ⊥) → named (drop i xs) n ≡ named xs n → named (drop (i + 1) xs) n ≡ named xs n
-named_on xs i n h t inv =
-    let a : named (drop i xs) n ≡ (eqb (get_or xs i blank).number n || named (drop (i + 1) xs) n) = at_drop_more (λ l. named l n) xs i blank h in
-    let b = ne_eqb (get_or xs i blank).number n t in
-    cc
+-- the first landed entry with the number
+pub found_is : (es : List Entry) (n : ℕ) (r : Option ℕ) (q : Result ℕ StoreFault)
+    → MatchOption r (AllWithin (λ e. (e.landed && eqb e.number n) ≡ false) es 0 (length es)) (λ i. (i < length es) × HoldsAt (λ e. (e.landed ≡ true) × (e.number ≡ n)) es i × AllWithin (λ e. (e.landed && eqb e.number n) ≡ false) es 0 i)
+    → q ≡ ok_or r Absent → Found es n q
+found_is es n None q h e = subst (Found es n) (sym e) (refl, or_from_places (λ xs. stored xs n) (λ e. e.landed && eqb e.number n) refl (λ _ _. refl) es blank (λ i l. h i blank (omega arith) l))
+found_is es n (Some i) q h e = subst (Found es n) (sym e) (h.0, (h.1 blank).1, (h.1 blank).0)
 
-pub named_end : (xs : List Entry) (i n : ℕ) → length xs ≤ i → named (drop i xs) n ≡ named xs n → false ≡ named xs n
-named_end xs i n h inv = sym (at_drop_all (λ z. named z n) xs i h) ∙ inv
-
-pub stored_on : (xs : List Entry) (i n : ℕ) → i < length xs → ((get_or xs i blank).landed && eqb (get_or xs i blank).number n) ≡ false → stored (drop i xs) n ≡ stored xs n → stored (drop (i + 1) xs) n ≡ stored xs n
-stored_on xs i n h t inv =
-    let a : stored (drop i xs) n ≡ (((get_or xs i blank).landed && eqb (get_or xs i blank).number n) || stored (drop (i + 1) xs) n) = at_drop_more (λ l. stored l n) xs i blank h in
-    cc
-
-pub stored_end : (xs : List Entry) (i n : ℕ) → length xs ≤ i → stored (drop i xs) n ≡ stored xs n → stored xs n ≡ false
-stored_end xs i n h inv = sym inv ∙ at_drop_all (λ z. stored z n) xs i h
-
-pub waits_on : (xs : List Entry) (i : ℕ) → i < length xs → (get_or xs i blank).landed ≡ true → waits (take i xs) ≡ 0 → waits (take (i + 1) xs) ≡ 0
-waits_on xs i h t inv =
-    let a : waits (take (i + 1) xs) ≡ waits (take i xs) + waits (get_or xs i blank ∷ []) = ap waits (take_more xs i blank h) ∙ waits_append (take i xs) (get_or xs i blank ∷ []) in
-    let b : waits (get_or xs i blank ∷ []) ≡ 0 = ap (λ z. cond {A = ℕ} z 0 1 + 0) t in
+-- entries that have all landed wait for nothing
+pub none_wait : (es : List Entry) → ((k : ℕ) → k < length es → (here es k).landed ≡ true) → waits es ≡ 0
+none_wait [] h = refl
+none_wait (e ∷ es) h =
+    let ih = none_wait es (λ k l. h (suc k) (omega arith)) in
+    let f : cond {A = ℕ} e.landed 0 1 ≡ 0 = ap (λ z. cond {A = ℕ} z 0 1) (h 0 (omega arith)) in
     omega arith
 
-pub waits_end : (xs : List Entry) (i : ℕ) → length xs ≤ i → waits (take i xs) ≡ 0 → waits xs ≡ 0
-waits_end xs i h inv = ap waits (sym (take_all i xs h)) ∙ inv
+-- the first pending entry
+pub first_is : (es : List Entry) (r : Option ℕ)
+    → MatchOption r (AllWithin (λ e. e.landed ≡ true) es 0 (length es)) (λ i. (i < length es) × HoldsAt (λ e. e.landed ≡ false) es i × AllWithin (λ e. e.landed ≡ true) es 0 i)
+    → IsNext oldest_turn es r
+first_is es None h = none_wait es (λ k l. h k blank (omega arith) l)
+first_is es (Some i) h =
+    (h.0, h.1 blank, none_wait (take i es) (λ k l. let b : k < i = omega (arith, length-take i es) in ap (λ e. e.landed) (get_or-take i es k blank b) ∙ h.2 k blank (omega arith) b))
 
-pub waits_back : (xs : List Entry) (i k : ℕ) → k ≤ length xs → i + 1 ≡ k → (get_or xs i blank).landed ≡ true → waits (drop k xs) ≡ 0 → waits (drop i xs) ≡ 0
-waits_back xs i k h e t inv =
-    let a : waits (drop i xs) ≡ cond (get_or xs i blank).landed 0 1 + waits (drop (i + 1) xs) = at_drop_more waits xs i blank (omega arith) in
-    let b : cond {A = ℕ} (get_or xs i blank).landed 0 1 ≡ 0 = ap (λ z. cond {A = ℕ} z 0 1) t in
-    let d : waits (drop (i + 1) xs) ≡ 0 = ap (λ z. waits (drop z xs)) e ∙ inv in
-    omega arith
+-- the last pending entry
+pub last_is : (es : List Entry) (r : Option ℕ)
+    → MatchOption r (All (λ e. e.landed ≡ true) es) (λ i. (i < length es) × ((here es i).landed ≡ false) × ((k : ℕ) → i < k → k < length es → (here es k).landed ≡ true))
+    → IsNext newest_turn es r
+last_is es None h = none_wait es (λ k l. h k blank l)
+last_is es (Some i) h =
+    let behind : waits (drop (suc i) es) ≡ 0 = none_wait (drop (suc i) es) (λ k l. ap (λ e. e.landed) (get_or-drop (suc i) es k blank) ∙ h.2 (suc i + k) (omega arith) (omega (arith, length-drop (suc i) es))) in
+    let p : cond {A = ℕ} (here es i).landed 0 1 ≡ 1 = ap (λ z. cond {A = ℕ} z 0 1) h.1 in
+    let w = waits_split es i h.0 in
+    (h.0, h.1, omega arith)
 
-pub lower_none : (a : Option ℕ) → lower a None ≡ a
-lower_none None = refl
-lower_none (Some x) = refl
+-- the lowest of several numbers
+min_fold : (x y : ℕ) (ys : List ℕ) → fold min (min x y) ys ≡ min x (fold min y ys)
+min_fold x y [] = refl
+min_fold x y (z ∷ zs) =
+    let a : min (min x y) z ≡ min x (min y z) = omega arith in
+    ap (λ w. fold min w zs) a ∙ min_fold x (min y z) zs
 
-pub lowest_end : (xs : List Entry) (i n : ℕ) (b : Option ℕ) → length xs ≤ i → lower b (lowest (drop i xs) n) ≡ lowest xs n → b ≡ lowest xs n
-lowest_end xs i n b h inv = sym (lower_none b) ∙ ap (lower b) (sym (at_drop_all (λ z. lowest z n) xs i h)) ∙ inv
+lower_reduce : (x : ℕ) (xs : List ℕ) → lower (Some x) (reduce min xs) ≡ reduce min (x ∷ xs)
+lower_reduce x [] = refl
+lower_reduce x (y ∷ ys) =
+    let m : cond (leb x (fold min y ys)) x (fold min y ys) ≡ min x (fold min y ys) = grind (arith, nat_tests) in
+    ap Some (m ∙ sym (min_fold x y ys))
 
-pub lowest_on : (xs : List Entry) (i n : ℕ) (b b' : Option ℕ) → i < length xs → b' ≡ lower b (offer (get_or xs i blank) n) → lower b (lowest (drop i xs) n) ≡ lowest xs n → lower b' (lowest (drop (i + 1) xs) n) ≡ lowest xs n
-lowest_on xs i n b b' h e inv =
-    let a : lowest (drop i xs) n ≡ lower (offer (get_or xs i blank) n) (lowest (drop (i + 1) xs) n) = at_drop_more (λ l. lowest l n) xs i blank h in
-    ap (λ z. lower z (lowest (drop (i + 1) xs) n)) e ∙ lower_assoc b (offer (get_or xs i blank) n) (lowest (drop (i + 1) xs) n) ∙ ap (lower b) (sym a) ∙ inv
+pub lowest_is : (es : List Entry) (n : ℕ) → reduce min (map (λ e. e.number) (filter (λ e. e.landed && leb n e.number) es)) ≡ lowest es n
+lowest_is [] n = refl
+lowest_is (e ∷ es) n = go (e.landed && leb n e.number) (lowest_is es n)
+  where
+    go : (b : Bool) → reduce min (map (λ (x : Entry). x.number) (filter (λ x. x.landed && leb n x.number) es)) ≡ lowest es n
+        → reduce min (map (λ (x : Entry). x.number) (cond b (e ∷ filter (λ x. x.landed && leb n x.number) es) (filter (λ x. x.landed && leb n x.number) es))) ≡ lower (cond b (Some e.number) None) (lowest es n)
+    go true ih = sym (lower_reduce e.number _) ∙ ap (lower (Some e.number)) ih
+    go false ih = ih
 
--- a sum over the entries so far
-pub total_more : (f : ℕ → ℕ) (xs : List Entry) (i s : ℕ) → i < length xs → s ≡ total f (take i xs) → s + f (get_or xs i blank).length ≡ total f (take (i + 1) xs)
-total_more f xs i s h e =
-    let a : total f (take (i + 1) xs) ≡ total f (take i xs) + total f (get_or xs i blank ∷ []) = ap (total f) (take_more xs i blank h) ∙ total_append f (take i xs) (get_or xs i blank ∷ []) in
-    omega arith
+-- whether an entry waits, as a number
+pub one_waits : (e : Entry) → from_bool (not e.landed) ≡ waits (e ∷ [])
+one_waits e = go e.landed
+  where
+    go : (b : Bool) → from_bool (not b) ≡ cond {A = ℕ} b 0 1 + 0
+    go true = refl
+    go false = refl
 
+-- a sum over the first entries
 pub total_part : (f : ℕ → ℕ) (xs : List Entry) (i : ℕ) → total f (take i xs) ≤ total f xs
 total_part f xs i = let a : total f xs ≡ total f (take i xs) + total f (drop i xs) = ap (total f) (sym (take-append-drop i xs)) ∙ total_append f (take i xs) (drop i xs) in omega arith

@@ -68,13 +68,24 @@ abbrev pub PolledAt : ℕ → StoreView → Option ℕ → StoreView → Type 0
 PolledAt i v None w = (v.pending ≡ []) × (w ≡ v)
 PolledAt i v (Some n) w = Lands v i n w
 
+-- The turn of the oldest of so many pending puts, and of the newest.
+abbrev pub oldest_turn : ℕ → ℕ
+oldest_turn n = 0
+
+abbrev pub newest_turn : ℕ → ℕ
+newest_turn n = n - 1
+
+-- What poll does where the pending put whose turn it is lands.
+abbrev pub PolledInTurn : (ℕ → ℕ) → StoreView → Option ℕ → StoreView → Type 0
+PolledInTurn turn v r w = PolledAt (turn (length v.pending)) v r w
+
 -- What poll does where the oldest pending put lands.
 abbrev pub PolledOldest : StoreView → Option ℕ → StoreView → Type 0
-PolledOldest v r w = PolledAt 0 v r w
+PolledOldest v r w = PolledInTurn oldest_turn v r w
 
 -- What poll does where the newest pending put lands.
 abbrev pub PolledNewest : StoreView → Option ℕ → StoreView → Type 0
-PolledNewest v r w = PolledAt (length v.pending - 1) v r w
+PolledNewest v r w = PolledInTurn newest_turn v r w
 
 -- What size answers: the length of a landed object.
 abbrev pub sized : StoreView → ℕ → Result ℕ StoreFault

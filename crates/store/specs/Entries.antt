@@ -1,5 +1,5 @@
 -- A directory's entries over an area in which their objects lie one after another.
-use Rattle.std.specs.Prelude.{◌≡◌, ℕ, ◌+◌, ◌<◌, ◌≤◌, Bool, true, false, cond, not, ◌&&◌, ◌||◌, List, [], ◌∷◌, length, take, drop, Some, None, Ok, Err, Option, Result, ◌==◌, nat_le, slice_index_or}
+use Rattle.std.specs.Prelude.{◌≡◌, ℕ, ◌+◌, ◌<◌, ◌≤◌, Bool, true, false, cond, not, ◌&&◌, ◌||◌, ◌⊎◌, List, [], ◌∷◌, length, take, drop, Some, None, Ok, Err, Option, Result, ◌==◌, nat_le, slice_index_or}
 use Rattle.store.specs.declared.directory.Entry.{Entry}
 use Rattle.store.specs.Views.{lower}
 use Rattle.store.specs.declared.fault.StoreFault.{StoreFault}
@@ -58,36 +58,31 @@ risen e = record { number = e.number; length = e.length; landed = true }
 abbrev pub blank : Entry
 blank = record { number = 0; length = 0; landed = false }
 
--- Entry i is landed and has the number; or none is and has.
-abbrev pub Found : List Entry → ℕ → Option ℕ → Type 0
-Found es n None = stored es n ≡ false
-Found es n (Some i) = (i < length es) × ((slice_index_or es i blank).number ≡ n) × ((slice_index_or es i blank).landed ≡ true)
+-- Entry i is landed and has the number; or none is and has, and the object is absent.
+abbrev pub Found : List Entry → ℕ → Result ℕ StoreFault → Type 0
+Found es n (Err e) = (e ≡ Absent) × (stored es n ≡ false)
+Found es n (Ok i) = (i < length es) × ((slice_index_or es i blank).number ≡ n) × ((slice_index_or es i blank).landed ≡ true)
 
 -- A landed entry has the number, and its object is too short for the part.
 pub record TooShort (es : List Entry) (n from count : ℕ) : Type 0 where
   pub at : ℕ
-  pub found : Found es n (Some at)
+  pub found : Found es n (Ok at)
   pub short : (slice_index_or es at blank).length < from + count
 
 -- Entry i is landed and has the number, and its object has the part; or why there is none such.
 abbrev pub PartFound : List Entry → ℕ → ℕ → ℕ → Result ℕ StoreFault → Type 0
-PartFound es n from count (Ok i) = Found es n (Some i) × (from + count ≤ (slice_index_or es i blank).length)
-PartFound es n from count (Err Length) = ⊥
-PartFound es n from count (Err Taken) = ⊥
-PartFound es n from count (Err Crowded) = ⊥
-PartFound es n from count (Err Full) = ⊥
-PartFound es n from count (Err Absent) = stored es n ≡ false
-PartFound es n from count (Err PastEnd) = TooShort es n from count
+PartFound es n from count (Ok i) = Found es n (Ok i) × (from + count ≤ (slice_index_or es i blank).length)
+PartFound es n from count (Err e) = Found es n (Err e) ⊎ ((e ≡ PastEnd) × TooShort es n from count)
 
--- Entry i is pending and none before it is; or none is at all.
-abbrev pub Oldest : List Entry → Option ℕ → Type 0
-Oldest es None = waits es ≡ 0
-Oldest es (Some i) = (i < length es) × ((slice_index_or es i blank).landed ≡ false) × (waits (take i es) ≡ 0)
+-- Entry i is pending, and as many pending ones stand before it as the turn says of all; or none is at all.
+abbrev pub IsNext : (ℕ → ℕ) → List Entry → Option ℕ → Type 0
+IsNext turn es None = waits es ≡ 0
+IsNext turn es (Some i) = (i < length es) × ((slice_index_or es i blank).landed ≡ false) × (waits (take i es) ≡ turn (waits es))
 
--- Entry i is pending and none after it is; or none is at all.
-abbrev pub Newest : List Entry → Option ℕ → Type 0
-Newest es None = waits es ≡ 0
-Newest es (Some i) = (i < length es) × ((slice_index_or es i blank).landed ≡ false) × (waits (drop (i + 1) es) ≡ 0)
+-- Some objects that lie one after another end there.
+pub record Begins (room : ℕ → ℕ) (at : ℕ) : Type 0 where
+  pub objects : List Entry
+  pub ends : at ≡ total room objects
 
 -- The refusal that a put of so many bytes is due, by the directory, the count of pending puts and whether there is room.
 abbrev pub due : List Entry → ℕ → ℕ → ℕ → Bool → Option StoreFault

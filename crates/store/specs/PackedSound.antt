@@ -1,5 +1,6 @@
--- What always holds of a packed store.
-use Rattle.std.specs.Prelude.{◌≡◌, ℕ, ◌+◌, ◌*◌, ◌<◌, ◌≤◌, List, length}
+-- How a packed store lays its objects.
+use Rattle.std.specs.Prelude.{ℕ, ◌+◌, ◌≤◌, List, [], ◌∷◌}
+use Rattle.std.proofs.Common.{arith}
 use Rattle.store.specs.declared.directory.Entry.{Entry}
 use Rattle.store.specs.Entries.{total}
 
@@ -11,10 +12,7 @@ packed_room n = n
 abbrev pub packed_weight : ℕ → ℕ
 packed_weight n = n + 12
 
--- The lengths are summed, and all weights together are within the area's length.
-abbrev pub PackedSums : List Entry → ℕ → ℕ → Type 0
-PackedSums es used long = (used ≡ total packed_room es) × (used + 12 * length es ≤ long)
-
--- The area is 1 to 65,536 long, and the directory has room for all that it can take.
-abbrev pub PackedArea : ℕ → ℕ → Type 0
-PackedArea room long = (1 ≤ long) × (long ≤ 65536) × (long < 13 * (room + 1))
+-- Objects take no more room together than they weigh.
+pub packed_covered : (es : List Entry) → total packed_room es ≤ total packed_weight es
+packed_covered [] = omega arith
+packed_covered (e ∷ es) = let ih = packed_covered es in omega arith

@@ -1,5 +1,8 @@
--- What always holds of a paged store.
-use Rattle.std.specs.Prelude.{◌≡◌, ℕ, ◌+◌, ◌*◌, ◌/◌, ◌≤◌, Bool, true, cond, ◌&&◌, List, [], ◌∷◌, ◌++◌, take, drop, ◌==◌, nat_lt}
+-- How a paged store lays its objects.
+use Rattle.std.specs.Prelude.{◌≡◌, ℕ, ◌+◌, ◌*◌, ◌/◌, ◌<◌, ◌≤◌, Bool, true, cond, ◌&&◌, List, [], ◌∷◌, ◌++◌, length, take, drop, ◌==◌, nat_lt, refl}
+use Rattle.std.proofs.Common.{◌∙◌, arith}
+use Rattle.std.proofs.lemmas.Bool.{and_parts, ltb-true}
+use Rattle.std.proofs.lemmas.List.{length-append, length-drop, length-take-le}
 use Rattle.store.specs.declared.directory.Entry.{Entry}
 use Rattle.store.specs.Entries.{total}
 
@@ -30,14 +33,28 @@ abbrev pub below : ℕ → List ℕ → Bool
 below n [] = true
 below n (p ∷ ps) = nat_lt p n && below n ps
 
--- The pages given out are counted, and there are as many.
-abbrev pub PagedSums : List Entry → ℕ → ℕ → Type 0
-PagedSums es used count = (used ≡ total pages es) × (used ≤ count)
-
 -- No page stands twice in the order, so that no page is given twice.
 abbrev pub GivenOnce : List ℕ → Type 0
 GivenOnce order = (p : ℕ) → copies p order ≤ 1
 
--- There are 1 to 64 pages, all in the area, and the directory has room for an object on each.
-abbrev pub PagedArea : List ℕ → ℕ → ℕ → ℕ → Type 0
-PagedArea order count room long = (below count order ≡ true) × (1 ≤ count) × (count ≤ 64) × (long ≡ 1024 * count) × (count ≤ room)
+-- There are 1 to 64 pages, and all are in the area.
+abbrev pub PagedArea : List ℕ → ℕ → ℕ → Type 0
+PagedArea order count long = (below count order ≡ true) × (1 ≤ count) × (count ≤ 64) × (long ≡ 1024 * count)
+
+-- A page has its bytes.
+pub length_page : (a : List ℕ) (p n : ℕ) → p < n → length a ≡ 1024 * n → length (page a p) ≡ 1024
+length_page a p n h e = length-take-le 1024 (drop (1024 * p) a) (simp length-drop (omega arith))
+
+-- Pages have their bytes together.
+pub length_laid : (a ps : List ℕ) (n : ℕ) → below n ps ≡ true → length a ≡ 1024 * n → length (laid a ps) ≡ 1024 * length ps
+length_laid a [] n b e = refl
+length_laid a (p ∷ ps) n b e =
+    let q = and_parts (nat_lt p n) (below n ps) b in
+    let ih = length_laid a ps n q.1 e in
+    let l = length_page a p n (ltb-true p n q.0) e in
+    length-append (page a p) (laid a ps) ∙ omega arith
+
+-- Objects take the room of their pages together.
+pub room_total : (es : List Entry) → total paged_room es ≡ 1024 * total pages es
+room_total [] = refl
+room_total (e ∷ es) = let ih = room_total es in omega arith

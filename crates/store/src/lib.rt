@@ -1,13 +1,14 @@
 // Objects by number in a store: a put is pending until it lands.
 #![tactic(auto)]
 
-ghost use Rattle.std.specs.Prelude.{◌≡◌, ℕ, length};
+ghost use Rattle.std.specs.Prelude.{◌≡◌, length};
 ghost use Rattle.store.specs.Views.{StoreView, next_from};
 ghost use Rattle.store.specs.Calls.{Put, Polled, sized, Got, Deleted, CutTo};
 
 pub mod directory;
 pub mod fault;
-pub mod number;
+#[cfg(test)]
+mod tests;
 
 use fault::StoreFault;
 

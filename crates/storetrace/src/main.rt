@@ -1,29 +1,37 @@
 // Runs both stores through the same calls and prints their answers.
 #![tactic(auto)]
 
-use std::alloc::Global;
+use std::fmt;
 use store::Store;
 use store::directory::packed::PackedStore;
 use store::directory::paged::PagedStore;
-use store::fault::MakeFault;
+use store::fault::{MakeFault, StoreFault};
+
+// What a call answered: a value, or `no` and the number of the refusal.
+#[derive(Drop)]
+struct Answer<T>(Result<T, StoreFault>);
+
+impl<T: fmt::Display> fmt::Display for Answer<T> {
+    fn fmt<W: fmt::Write>(&self, f: &mut fmt::Formatter<W>) -> fmt::Result {
+        match &self.0 {
+            Ok(value) => write!(f, "{value}"),
+            Err(fault) => write!(f, "no {}", u8::from(*fault)),
+        }
+    }
+}
 
 // Fills bytes so that each object and each place in it differs from its neighbours.
 fn fill(bytes: &mut [u8], number: u32) {
-    for i in 0..bytes.len() {
-        bytes[i] = ((i % 251 + number as usize % 251) % 251) as u8;
+    for (i, byte) in bytes.iter_mut().enumerate() {
+        *byte = ((i % 251 + number as usize % 251) % 251) as u8;
     }
 }
 
 fn put<S: Store>(rt: &HostRuntime, store: &mut S, number: u32, len: usize) -> anyhow::Result<()> {
     let mut bytes = vec![in rt.alloc(); 0u8; len]?;
     fill(bytes.as_mut_slice(), number);
-    match store.put(number, &bytes) {
-        Ok(()) => println!(rt; "put {number} of {len}: ok")?,
-        Err(fault) => {
-            let why = fault.number();
-            println!(rt; "put {number} of {len}: no {why}")?;
-        }
-    }
+    let answer = Answer(store.put(number, &bytes).map(|()| "ok"));
+    println!(rt; "put {number} of {len}: {answer}")?;
     Ok(())
 }
 
@@ -36,13 +44,8 @@ fn poll<S: Store>(rt: &HostRuntime, store: &mut S) -> anyhow::Result<()> {
 }
 
 fn size<S: Store>(rt: &HostRuntime, store: &S, number: u32) -> anyhow::Result<()> {
-    match store.size(number) {
-        Ok(len) => println!(rt; "size {number}: {len}")?,
-        Err(fault) => {
-            let why = fault.number();
-            println!(rt; "size {number}: no {why}")?;
-        }
-    }
+    let answer = Answer(store.size(number));
+    println!(rt; "size {number}: {answer}")?;
     Ok(())
 }
 
@@ -53,7 +56,7 @@ fn get<S: Store>(rt: &HostRuntime, store: &S, number: u32, from: u32) -> anyhow:
     match answer {
         Ok(()) => println!(rt; "get {number} from {from}: {a} {b} {c} {d}")?,
         Err(fault) => {
-            let why = fault.number();
+            let why = u8::from(fault);
             println!(rt; "get {number} from {from}: no {why}, {a} {b} {c} {d}")?;
         }
     }
@@ -66,14 +69,8 @@ fn get_nothing<S: Store>(
     number: u32,
     from: u32,
 ) -> anyhow::Result<()> {
-    let mut out = [0u8; 0];
-    match store.get(number, from, &mut out) {
-        Ok(()) => println!(rt; "get nothing of {number} from {from}: ok")?,
-        Err(fault) => {
-            let why = fault.number();
-            println!(rt; "get nothing of {number} from {from}: no {why}")?;
-        }
-    }
+    let answer = Answer(store.get(number, from, &mut []).map(|()| "ok"));
+    println!(rt; "get nothing of {number} from {from}: {answer}")?;
     Ok(())
 }
 
@@ -86,13 +83,8 @@ fn next<S: Store>(rt: &HostRuntime, store: &S, from: u32) -> anyhow::Result<()> 
 }
 
 fn delete<S: Store>(rt: &HostRuntime, store: &mut S, number: u32) -> anyhow::Result<()> {
-    match store.delete(number) {
-        Ok(()) => println!(rt; "delete {number}: ok")?,
-        Err(fault) => {
-            let why = fault.number();
-            println!(rt; "delete {number}: no {why}")?;
-        }
-    }
+    let answer = Answer(store.delete(number).map(|()| "ok"));
+    println!(rt; "delete {number}: {answer}")?;
     Ok(())
 }
 
@@ -192,46 +184,29 @@ fn trace<S: Store>(rt: &HostRuntime, store: &mut S) -> anyhow::Result<()> {
     refill(rt, store)
 }
 
-fn refused(rt: &HostRuntime, fault: MakeFault) -> anyhow::Result<()> {
-    match fault {
-        MakeFault::Range => println!(rt; "out of range")?,
-        MakeFault::Memory => println!(rt; "no memory")?,
-    }
-    Ok(())
-}
-
-fn paged(rt: &HostRuntime, heap: Global, count: u32) -> anyhow::Result<()> {
-    println!(rt; "paged {count}")?;
-    match PagedStore::new(heap, count) {
-        Ok(store) => {
-            let mut store = store;
-            trace(rt, &mut store)
+// Traces a store that was made, or prints why it was not.
+fn made<S: Store + Drop>(
+    rt: &HostRuntime,
+    kind: &str,
+    count: u32,
+    store: Result<S, MakeFault>,
+) -> anyhow::Result<()> {
+    println!(rt; "{kind} {count}")?;
+    match store {
+        Ok(mut store) => trace(rt, &mut store),
+        Err(fault) => {
+            println!(rt; "{fault}")?;
+            Ok(())
         }
-        Err(fault) => refused(rt, fault),
     }
-}
-
-fn packed(rt: &HostRuntime, heap: Global, count: u32) -> anyhow::Result<()> {
-    println!(rt; "packed {count}")?;
-    match PackedStore::new(heap, count) {
-        Ok(store) => {
-            let mut store = store;
-            trace(rt, &mut store)
-        }
-        Err(fault) => refused(rt, fault),
-    }
-}
-
-fn run(rt: &HostRuntime) -> anyhow::Result<()> {
-    let heap = rt.alloc();
-    paged(rt, heap, 0)?;
-    paged(rt, heap, 65)?;
-    paged(rt, heap, 48)?;
-    packed(rt, heap, 0)?;
-    packed(rt, heap, 65537)?;
-    packed(rt, heap, 49152)
 }
 
 fn main(rt: HostRuntime) -> anyhow::Result<()> {
-    run(&rt)
+    for count in [0u32, 65, 48] {
+        made(&rt, "paged", count, PagedStore::new(rt.alloc(), count))?;
+    }
+    for count in [0u32, 65537, 49152] {
+        made(&rt, "packed", count, PackedStore::new(rt.alloc(), count))?;
+    }
+    Ok(())
 }

@@ -1,12 +1,21 @@
 // Bytes in pages of an area.
-ghost use Rattle.std.specs.Prelude.{◌≡◌, ℕ, ◌+◌, ◌*◌, ◌<◌, ◌≤◌, true, [], ◌∷◌, ◌++◌, length, take, drop, IfOk, vec_len};
+ghost use Rattle.std.specs.Prelude.{◌≡◌, ◌+◌, ◌*◌, ◌≤◌, true, ◌++◌, length, take, drop, IfOk, vec_len};
 ghost use Rattle.std.proofs.Math.Seq.{paste};
 ghost use Rattle.store.specs.PagedSound.{laid, below, GivenOnce};
 
-pub mod calls;
+mod pages;
 
-use crate::directory::write_at;
 use std::alloc::{AllocError, Global};
+
+// Writes the bytes from `at` on.
+fn write_at(area: &mut Vec<u8>, at: usize, bytes: &[u8])
+    requires { at + length bytes.now ≤ vec_len area.old }
+    ensures items { area.new.items ≡ take at area.old.items ++ (bytes.now ++ drop (at + length bytes.now) area.old.items) }
+    ensures len { vec_len area.new ≡ vec_len area.old }
+{
+    let end = at + bytes.len();
+    area[at..end].copy_from_slice(bytes);
+}
 
 // Writes bytes into the pages from place `first` of the order on.
 fn write_pages(area: &mut Vec<u8>, order: &[u8], first: usize, bytes: &[u8])
@@ -18,14 +27,8 @@ fn write_pages(area: &mut Vec<u8>, order: &[u8], first: usize, bytes: &[u8])
     ensures after { laid area.new.items order.now ≡ paste (laid area.old.items order.now) (1024 * first) bytes.now (length bytes.now) }
     ensures len { vec_len area.new ≡ vec_len area.old }
 {
-    let mut done = 0;
-    let mut place = first;
-    while done < bytes.len() {
-        let count = (bytes.len() - done).min(1024);
-        let page = usize::from(order[place]);
-        write_at(area, 1024 * page, &bytes[done..done + count]);
-        done += count;
-        place += 1;
+    for (part, page) in bytes.chunks(1024).zip(&order[first..]) {
+        write_at(area, 1024 * usize::from(*page), part);
     }
 }
 
@@ -40,7 +43,7 @@ fn copy_part(area: &[u8], start: usize, out: &mut [u8], at: usize, count: usize)
     out[at..end].copy_from_slice(&area[start..stop]);
 }
 
-// Copies bytes out of the pages, from the byte `at` of the order on.
+// Copies bytes out of the pages, from the byte `at` of the order on. The loop counts by hand: the first part and the last may be short, so no chain is plainer.
 fn read_pages(area: &[u8], order: &[u8], at: usize, out: &mut [u8])
     requires fits { at + length out.old ≤ 1024 * length order.now }
     requires pages { below (length order.now) order.now ≡ true }
@@ -65,17 +68,12 @@ fn retire(order: &mut Vec<u8>, at: usize, count: usize)
     ensures items { order.new.items ≡ take at order.old.items ++ (drop (at + count) order.old.items ++ take count (drop at order.old.items)) }
     ensures len { vec_len order.new ≡ vec_len order.old }
 {
-    let end = order.len();
-    order[at..end].rotate_left(count);
+    order[at..].rotate_left(count);
 }
 
 // Every page once.
 fn all_pages(heap: Global, count: u8) -> Result<Vec<u8>, AllocError>
     ensures { IfOk result (λ v. (vec_len v ≡ count) × (below count v.items ≡ true) × GivenOnce v.items) }
 {
-    let mut order = Vec::with_capacity(heap, usize::from(count))?;
-    for page in 0..count {
-        order.push_reserved(page);
-    }
-    Ok(order)
+    (0..count).collect(heap)
 }
