@@ -1,9 +1,12 @@
 -- Slots kept in memory.
-use Rattle.std.proofs.Common.{◌≡◌, ℕ, zero, suc, ◌+◌, ◌^◌, ◌<◌, ◌≤◌, Bool, List, [], ◌∷◌, ◌++◌, length, get_or, take, drop, set, replicate, sym, refl, ap, ◌∙◌, subst, arith, lit<}
+use Rattle.std.proofs.Common.{◌≡◌, ℕ, zero, suc, ◌+◌, ◌^◌, ◌<◌, ◌≤◌, Bool, List, [], ◌∷◌, ◌++◌, length, get_or, take, drop, replicate, sym, refl, ap, ◌∙◌, subst, ⊎_elim, arith, lit<}
 use borrow.Rule.Slice.PartMut.{put_mid}
-use Rattle.std.proofs.lemmas.Bool.{cond_both}
-use Rattle.std.proofs.lemmas.List.{append-nil, drop_all, drop_at, drop-drop, length-drop, length-replicate, length-take-le, replicate_more, take_all, take-append-drop, take_more_set}
+use Rattle.std.proofs.lemmas.Bool.{cond_both, cases_lt}
+use Rattle.std.proofs.lemmas.List.{append-nil, get_or_past, get_or-replicate, drop_all, drop_at, drop-drop, length-drop, length-replicate, length-take-le, take_all, take-append-drop}
+use Rattle.std.proofs.lemmas.List.Elements.{same_from_all_zip}
+use Rattle.std.specs.Array.{AllZipBelow}
 use Rattle.drive.specs.Views.{Slot, Full, Bytes, zero_slot, slot_bytes, mixed}
+use Rattle.drive.specs.Areas.{Kept}
 
 -- bytes that are copied in two parts, the rest before the front, are all copied
 pub rejoined : (k m : ℕ) (to from front rest : List ℕ) → length to ≡ k + m → length from ≡ k + m → front ≡ take k from → rest ≡ take m (drop k from) → front ++ drop k (put_mid k m to rest) ≡ from
@@ -15,13 +18,6 @@ rejoined k m to from front rest l h f r =
     let n = append-nil rest in
     cc
 
--- what an area of slots keeps, as its type has it
-pub record Kept (xs : List Slot) : Type 0 where
-  pub some : 0 < length xs
-  pub few : length xs < 2 ^ 32
-  pub full : Full xs
-  pub bytes : Bytes xs
-
 -- the same slots keep the same
 pub kept_same : (xs ys : List Slot) → xs ≡ ys → Kept ys → Kept xs
 kept_same xs ys e h = subst Kept (sym e) h
@@ -30,25 +26,18 @@ pub zero_long : length zero_slot ≡ slot_bytes
 unfolding zero_slot
 zero_long = length-replicate {A = ℕ} slot_bytes 0
 
-zero_below : (n i : ℕ) → get_or (replicate n 0) i 0 < 256
-zero_below zero i = lit< tt
-zero_below (suc n) zero = lit< tt
-zero_below (suc n) (suc i) = zero_below n i
-
 zero_bytes : (i : ℕ) → get_or zero_slot i 0 < 256
 unfolding zero_slot
-zero_bytes i = zero_below slot_bytes i
+zero_bytes i = ⊎_elim (λ (h : i < slot_bytes). rw get_or-replicate (lit< tt)) (λ (h : slot_bytes ≤ i). rw (get_or_past zero_slot i 0 (omega (arith, zero_long))) (lit< tt)) (cases_lt i slot_bytes)
 
 -- slots of zeros are whole
 pub zeros_full : (n : ℕ) → Full (replicate n zero_slot)
-zeros_full zero k h = omega arith
-zeros_full (suc n) zero h = zero_long
-zeros_full (suc n) (suc k) h = zeros_full n k (omega arith)
+zeros_full n k h = let below : k < n = omega (arith, length-replicate n zero_slot) in rw get_or-replicate zero_long
 
 pub zeros_bytes : (n : ℕ) → Bytes (replicate n zero_slot)
-zeros_bytes zero k i = lit< tt
-zeros_bytes (suc n) zero i = zero_bytes i
-zeros_bytes (suc n) (suc k) i = zeros_bytes n k i
+zeros_bytes n k i =
+    ⊎_elim (λ (h : k < n). rw get_or-replicate (zero_bytes i)) (λ (h : n ≤ k). rw (get_or_past (replicate n zero_slot) k [] (omega (arith, length-replicate n zero_slot))) (lit< tt))
+    (cases_lt k n)
 
 -- that many slots of zeros are such an area
 pub kept_zeros : (xs : List Slot) (n : ℕ) → xs ≡ replicate n zero_slot → 0 < n → n < 2 ^ 32 → Kept xs
@@ -56,19 +45,9 @@ kept_zeros xs n e some few =
     let l = length-replicate n zero_slot in
     kept_same xs (replicate n zero_slot) e (record { some = omega arith; few = omega arith; full = zeros_full n; bytes = zeros_bytes n })
 
--- one slot more is cleared
-pub clear_more : (xs : List Slot) (i : ℕ) → i < length xs → take i xs ≡ replicate i zero_slot → take (i + 1) (set xs i zero_slot) ≡ replicate (i + 1) zero_slot
-clear_more xs i h e =
-    let a = take_more_set xs i zero_slot h in
-    let b = replicate_more i zero_slot in
-    cc
-
--- all are
-pub clear_done : (xs : List Slot) (i n : ℕ) → length xs ≡ n → n ≤ i → i ≤ n → take i xs ≡ replicate i zero_slot → xs ≡ replicate n zero_slot
-clear_done xs i n l past within e =
-    let a = take_all i xs (omega arith) in
-    let b : i ≡ n = omega arith in
-    cc
+-- a clone of an array of numbers is that array
+pub clone_same : (xs ys : List ℕ) (n : ℕ) → AllZipBelow (λ x y. y ≡ x) xs ys n → ys ≡ xs
+clone_same xs ys n h = same_from_all_zip _ xs ys h.whole (λ x y e. e)
 
 -- a mix of slots keeps what both lists keep
 pub length_mixed : (f : ℕ → Bool) (xs ys : List Slot) → length ys ≡ length xs → length (mixed f xs ys) ≡ length xs

@@ -72,7 +72,7 @@ mix_done d i from to past even =
     cc
 
 -- a choice between equals
-cond_same : {X : Type 0} (b : Bool) (x : X) → x ≡ cond b x x
+pub cond_same : {X : Type 0} (b : Bool) (x : X) → x ≡ cond b x x
 cond_same true x = refl
 cond_same false x = refl
 

@@ -1,5 +1,5 @@
 -- What a drive means, and what each of its calls does to that.
-use Rattle.std.specs.Prelude.{◌≡◌, ℕ, suc, ◌/◌, ◌%◌, ◌^◌, ◌<◌, ◌≤◌, Bool, cond, List, [], ◌∷◌, length, replicate, Ok, Err, Result, ◌==◌, slice_index, slice_index_or, slice_set}
+use Rattle.std.specs.Prelude.{◌≡◌, ℕ, suc, ◌/◌, ◌%◌, ◌^◌, ◌<◌, ◌≤◌, Bool, codes, cond, List, [], ◌∷◌, length, replicate, Ok, Err, Result, ◌==◌, slice_index, slice_index_or, slice_set}
 use Rattle.drive.specs.declared.DriveFault.{DriveFault}
 use Rattle.drive.specs.declared.DriveFault.TheVariants.{NoSuchSlot}
 use Rattle.drive.specs.declared.MakeFault.{MakeFault}
@@ -108,6 +108,11 @@ blank n = settled (replicate n zero_slot)
 abbrev pub make_number : MakeFault → ℕ
 make_number NoSlots = 1
 make_number NoMemory = 2
+
+-- What such a refusal is called.
+abbrev pub make_text : MakeFault → List ℕ
+make_text NoSlots = codes "a drive of no slots"
+make_text NoMemory = codes "no memory for a drive"
 
 -- A drive of n slots starts blank; none is made of 0 slots, and want of memory is the only other refusal.
 abbrev pub Made : {D : Type 0} → ℕ → (D → DriveView) → Result D MakeFault → Type 0

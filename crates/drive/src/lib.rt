@@ -1,8 +1,13 @@
 // A log drive: numbered slots of bytes that can be written, flushed and cut off by a loss of power.
 #![tactic(auto)]
 
-ghost use Rattle.std.specs.Prelude.{◌≡◌};
-ghost use Rattle.drive.specs.Views.{DriveView, Shaped, Read, Write, Cut, slot_count, flushed, blank};
+ghost use Rattle.std.specs.Prelude.{◌≡◌, Some};
+ghost use Rattle.drive.specs.Views.{DriveView, Shaped, Read, Write, Cut, slot_count, flushed, blank, fault_number, make_number, make_text};
+ghost use Rattle.drive.specs.declared.MakeFault.TheVariants.{NoMemory};
+
+use std::alloc::AllocError;
+use std::error::Error;
+use std::fmt;
 
 mod memory;
 
@@ -12,17 +17,58 @@ pub use memory::direct::DirectDrive;
 // How many bytes a slot has.
 pub const SLOT_BYTES: usize = 528;
 
-// Why a call of a drive is refused.
+// Why a call of a drive is refused, by its number.
 #[derive(Clone, Copy, PartialEq, Eq, Debug)]
 pub enum DriveFault {
-    NoSuchSlot,
+    NoSuchSlot = 1,
 }
 
-// Why a drive is not made.
+// The number of such a refusal.
+impl From<DriveFault> for u32 {
+    ghost from_gives = { λ fault number. number ≡ fault_number fault };
+
+    fn from(fault: DriveFault) -> u32 {
+        fault as u32
+    }
+}
+
+// Why a drive is not made, by its number.
 #[derive(Clone, Copy, PartialEq, Eq, Debug)]
 pub enum MakeFault {
-    NoSlots,
-    NoMemory,
+    NoSlots = 1,
+    NoMemory = 2,
+}
+
+// The number of such a refusal.
+impl From<MakeFault> for u32 {
+    ghost from_gives = { λ fault number. number ≡ make_number fault };
+
+    fn from(fault: MakeFault) -> u32 {
+        fault as u32
+    }
+}
+
+// What a program says where it has no drive.
+impl fmt::Display for MakeFault {
+    ghost output = { λ fault. Some (make_text fault) };
+
+    fn fmt<W: fmt::Write>(&self, f: &mut fmt::Formatter<W>) -> fmt::Result {
+        match self {
+            Self::NoSlots => write!(f, "a drive of no slots"),
+            Self::NoMemory => write!(f, "no memory for a drive"),
+        }
+    }
+}
+
+impl Error for MakeFault {}
+
+// Want of memory is the one error of making a list of slots.
+impl From<AllocError> for MakeFault {
+    ghost from_gives = { λ _ fault. fault ≡ NoMemory };
+
+    fn from(_error: AllocError) -> MakeFault {
+        MakeFault::NoMemory
+    }
 }
 
 // A drive means two lists of slots: what they read as now, and what a cut is sure to leave.

@@ -1,12 +1,13 @@
 -- Writing a write's records into their slots.
-use Rattle.std.proofs.Common.{◌≡◌, ℕ, zero, suc, ◌+◌, ◌-◌, ◌*◌, ◌/◌, ◌%◌, ◌^◌, ◌<◌, ◌≤◌, Bool, true, false, cond, not, ◌&&◌, eqb, ltb, leb, ◌≢◌, List, length, get_or, take, drop, set, sym, refl, ap, ◌∙◌, subst, ⊎_elim, add-mul, add-one, arith}
-use Rattle.std.proofs.lemmas.List.{length-set, get_or-set_same, get_or-set_other}
+use Rattle.std.proofs.Common.{◌≡◌, ℕ, zero, suc, ◌+◌, ◌-◌, ◌*◌, ◌/◌, ◌%◌, ◌^◌, ◌<◌, ◌≤◌, Bool, true, false, cond, not, ◌&&◌, eqb, ltb, leb, ◌≢◌, List, length, get_or, take, drop, set, sym, refl, ap, ◌∙◌, subst, ⊎_elim, add-mul, mul-zero, mul-suc, add-one, arith}
+use Rattle.std.proofs.lemmas.List.{length-set, get_or-set_same, get_or-set_other, drop-drop}
 use Rattle.std.proofs.lemmas.Bool.{cases_lt, and_parts, not-false, leb-true, ltb-false}
 use Rattle.std.proofs.lemmas.Nat.{mod_below, div-add-mod', mul-le}
 use Rattle.drive.specs.Views.{Slot, DriveView, Wrote, slot_count, zero_slot}
 use Rattle.journal.specs.Layout.{block_bytes, slot, head_of}
 use Rattle.journal.specs.Writes.{last_record, most_blocks, slot_at}
-use Rattle.journal.specs.Fills.{nth_head, nth_block, nth_slot, written, Takes, Filled, blocks_in, whole_write, LeftBy, WritesStand}
+use Rattle.std.specs.Simd.{first_chunks}
+use Rattle.journal.specs.Fills.{AreBlocks, nth_head, nth_block, nth_slot, written, Takes, Filled, blocks_in, whole_write, LeftBy, WritesStand}
 use Rattle.journal.specs.declared.record.Head.{Head}
 use Rattle.journal.proofs.Layouts.{head_back}
 
@@ -42,12 +43,15 @@ upto_more v w a n bytes i t u h block so_far eh eb wrote =
 pub upto_all : (v : DriveView) (w a n : ℕ) (bytes : List ℕ) (i : ℕ) (t : DriveView) → i ≡ n → Upto v w a n bytes i t → Filled v w a n bytes t
 upto_all v w a n bytes i t e h = let k = subst (λ j. Upto v w a n bytes j t) e h in record { current = k.current; steps = k.steps }
 
--- the part of the bytes that is block i
-pub part_block : (bytes : List ℕ) (i r : ℕ) → r ≡ i → take (r * block_bytes + block_bytes - r * block_bytes) (drop (r * block_bytes) bytes) ≡ nth_block bytes i
-part_block bytes i r e =
-    let a : r * block_bytes + block_bytes - r * block_bytes ≡ block_bytes = omega arith in
-    let b : r * block_bytes ≡ block_bytes * i = omega arith in
-    ap (λ m. take m (drop (r * block_bytes) bytes)) a ∙ ap (λ m. take block_bytes (drop m bytes)) b
+-- chunk i of some bytes
+chunk_at : (n k : ℕ) (xs : List ℕ) (i : ℕ) (d : List ℕ) → i < k → get_or (first_chunks n k xs) i d ≡ take n (drop (n * i) xs)
+chunk_at n zero xs i d below = absurd (omega arith)
+chunk_at n (suc k) xs zero d below = rw mul-zero refl
+chunk_at n (suc k) xs (suc i) d below = chunk_at n k (drop n xs) i d (omega arith) ∙ ap (take n) (drop-drop (n * i) n xs ∙ ap (λ m. drop m xs) (omega (arith, mul-suc n i)))
+
+-- block i of the bytes that are cut up
+pub block_at : (bytes : List ℕ) (blocks : List (List ℕ)) (i : ℕ) (d : List ℕ) → AreBlocks bytes blocks → i < length blocks → get_or blocks i d ≡ nth_block bytes i
+block_at bytes blocks i d are below = ap (λ bs. get_or bs i d) are.is ∙ chunk_at block_bytes (blocks_in bytes) bytes i d (omega (arith, are.count))
 
 -- records fewer than a whole round apart lie in different slots
 apart : (x d n : ℕ) → 0 < d → d < n → x % n ≡ (x + d) % n → ⊥

@@ -1,9 +1,9 @@
 -- Records and their slots.
-use Rattle.std.proofs.Common.{◌≡◌, ℕ, ◌+◌, ◌^◌, ◌<◌, ◌≤◌, List, [], ◌++◌, length, get_or, take, drop, IfSome, Some, Option, sym, refl, ap, ◌∙◌, ⊎_elim, append_assoc, append-nil, arith, take-add}
+use Rattle.std.proofs.Common.{◌≡◌, ℕ, ◌+◌, ◌<◌, ◌≤◌, List, [], ◌++◌, length, get_or, take, drop, sym, refl, ap, ◌∙◌, ⊎_elim, append_assoc, append-nil, arith, take-add}
 use Rattle.std.proofs.lemmas.List.{take_at, drop_at, drop-drop, drop_all, take_all, get_or-take, get_or-drop, length-append, length-take, length-drop, get_or_past, take-append-drop}
 use Rattle.std.proofs.lemmas.Bool.{cases_lt}
 use Rattle.endian.specs.Fields.{le, unle, placed}
-use Rattle.endian.proofs.Laws.{length_le, unle_le, le_unle, placed_is, got}
+use Rattle.endian.proofs.Laws.{length_le, unle_le, le_unle, placed_is}
 use Rattle.drive.specs.Views.{Slot, slot_bytes}
 use Rattle.journal.specs.declared.record.Head.{Head}
 use Rattle.journal.specs.declared.record.Record.{Record}
@@ -35,10 +35,6 @@ put_field h width value room e = put_more h width (le width value) (length_le wi
 -- all parts are put
 pub put_all : {b0 front b : List ℕ} {at : ℕ} → Begun b0 at front b → length b0 ≤ at → b ≡ front
 put_all {b0} {front} {b} {at} h full = h.is ∙ ap (λ l. front ++ l) (drop_all at b0 full) ∙ append-nil front
-
--- the number that was read is the one that the bytes write
-pub got_field : (width at : ℕ) (bs : List ℕ) (r : Option ℕ) (v : ℕ) → r ≡ Some v → IfSome r (λ n. take width (drop at bs) ≡ le width n) → v < 256 ^ width → v ≡ unle (take width (drop at bs))
-got_field width at bs r v is f below = let e = got (λ n. take width (drop at bs) ≡ le width n) r v is f in sym (unle_le width v below) ∙ ap unle (sym e)
 
 -- a part between two others
 part_at : (front mid back : List ℕ) (n w : ℕ) → length front ≡ n → length mid ≡ w → take w (drop n ((front ++ mid) ++ back)) ≡ mid

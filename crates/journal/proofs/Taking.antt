@@ -6,9 +6,10 @@ use Rattle.drive.specs.Views.{Slot}
 use Rattle.journal.specs.Layout.{head_of}
 use Rattle.journal.specs.Writes.{slot_at, Holds, Stands, ScanMost, records}
 use Rattle.journal.specs.Taken.{Begins}
+use Rattle.journal.specs.Fills.{nth_head}
 use Rattle.journal.specs.declared.span.Span.{Span}
 use Rattle.journal.specs.declared.record.Head.{Head}
-use Rattle.journal.proofs.Scans.{Run, run_few, run_more, run_none}
+use Rattle.journal.proofs.Scans.{Run, run_few, run_more}
 
 -- the writes so far are the first that the scan takes, whatever comes after them
 pub record Taken (slots : List Slot) (blocks most from taken : ℕ) (spans : List Span) : Type 0 where
@@ -24,21 +25,6 @@ pub record Going (slots : List Slot) (at i : ℕ) (h : Head) : Type 0 where
   pub some : 1 ≤ i
   pub end : i ≤ h.count
   pub each : (k : ℕ) → k < i → Holds slots (at + k) (h.address + k) k h.count
-
-pub taken_none : (slots : List Slot) (blocks most from : ℕ) (spans : List Span) → spans ≡ [] → Taken slots blocks most from 0 spans
-taken_none slots blocks most from spans e =
-    record {
-      within = omega arith;
-      few = omega arith;
-      run = run_none slots from;
-      total = sym (ap records e);
-      short = omega (arith, ap length e);
-      scan = λ rest p.
-          let z : most - 0 ≡ most = omega arith in
-          let p1 = subst (λ m. ScanMost slots blocks m (from + 0) rest) z p in
-          let p2 = subst (λ r. ScanMost slots blocks most r rest) (add-zero from) p1 in
-          subst (λ xs. ScanMost slots blocks most from (xs ++ rest)) (sym e) p2;
-    }
 
 records_push : (xs : List Span) (s : Span) → records (xs ++ s ∷ []) ≡ records xs + s.count
 records_push [] s = omega arith
@@ -67,15 +53,15 @@ module _ (slots : List Slot) (blocks most from taken : ℕ) (spans : List Span) 
         }
 
     -- there is room for it
-    pub taken_room : (room : ℕ) → 0 < length slots → min (length slots) most ≤ room → length spans < room
+    taken_room : (room : ℕ) → 0 < length slots → min (length slots) most ≤ room → length spans < room
     taken_room room some wide = omega (arith, more_few some, so_far.short, so_far.within, st.some)
 
     -- fewer slots are left
-    pub taken_less : (count : ℕ) → count ≡ s.count → 0 < length slots → length slots - (taken + count) < length slots - taken
+    taken_less : (count : ℕ) → count ≡ s.count → 0 < length slots → length slots - (taken + count) < length slots - taken
     taken_less count e some = omega (arith, more_few some, st.some)
 
     -- one write more, as the code adds it
-    pub taken_next : (count : ℕ) (after : List Span) → count ≡ s.count → after ≡ spans ++ s ∷ [] → 0 < length slots → Taken slots blocks most from (taken + count) after
+    taken_next : (count : ℕ) (after : List Span) → count ≡ s.count → after ≡ spans ++ s ∷ [] → 0 < length slots → Taken slots blocks most from (taken + count) after
     taken_next count after e is some =
         subst (Taken slots blocks most from (taken + count)) (sym is) (subst (λ n. Taken slots blocks most from (taken + n) (spans ++ s ∷ [])) (sym e) (taken_more some))
 
@@ -102,54 +88,41 @@ module _ (slots : List Slot) (at : ℕ) (h : Head) (is : h ≡ head_of (slot_at 
       (λ (k : n ≤ left). absurd (not record { number = number; index = index; some = omega (arith, st.some); few = omega (arith, st.few); inside = omega (arith, st.inside); fits = omega arith }))
       (cases_lt left n)
 
-  -- the first slot is as it must be
-  pub going_first : (blocks left : ℕ) → Begins h at blocks left → Going slots at 1 h
-  going_first blocks left b =
-      record {
-        some = omega arith;
-        end = b.some;
-        each = λ k below.
-            let z : k ≡ 0 = omega arith in
-            let number : (head_of (slot_at slots at)).number ≡ at = ap (λ x. x.number) (sym is) ∙ b.number in
-            let index : (head_of (slot_at slots at)).index ≡ 0 = ap (λ x. x.index) (sym is) ∙ b.index in
-            let here : Holds slots at h.address 0 h.count = record { number = number; address = ap (λ x. x.address) (sym is); index = index; count = ap (λ x. x.count) (sym is) } in
-            let here2 = subst (λ r. Holds slots r h.address 0 h.count) (sym (add-zero at)) here in
-            let here3 = subst (λ a. Holds slots (at + 0) a 0 h.count) (sym (add-zero h.address)) here2 in
-            subst (λ j. Holds slots (at + j) (h.address + j) j h.count) (sym z) here3;
-      }
-
   -- all slots are
-  pub gone : (blocks left i : ℕ) → Begins h at blocks left → Going slots at i h → h.count ≤ i → Stands slots blocks at h.address h.count
+  gone : (blocks left i : ℕ) → Begins h at blocks left → Going slots at i h → h.count ≤ i → Stands slots blocks at h.address h.count
   gone blocks left i b going past =
       record { some = b.some; few = b.few; inside = b.inside; each = λ k below. going.each k (omega arith) }
 
-  module _ (i : ℕ) (next : Head) (read : next ≡ head_of (slot_at slots (at + i))) where
+  module _ (blocks left : ℕ) (begun : Begins h at blocks left) (i : ℕ) (next : Head) (read : next ≡ head_of (slot_at slots (at + i))) where
     abbrev due : Head
-    due = record { number = at + i; address = h.address + i; index = i; count = h.count }
-
-    -- one slot more is as it must be
-    pub going_more : Going slots at i h → i < h.count → next ≡ due → Going slots at (i + 1) h
-    going_more going below same =
-        let e : head_of (slot_at slots (at + i)) ≡ due = sym read ∙ same in
-        let here : Holds slots (at + i) (h.address + i) i h.count = record { number = ap (λ x. x.number) e; address = ap (λ x. x.address) e; index = ap (λ x. x.index) e; count = ap (λ x. x.count) e } in
-        record {
-          some = omega arith;
-          end = omega arith;
-          each = λ k lt.
-              ⊎_elim (λ (l : k < i). going.each k l)
-              (λ (l : i ≤ k). let z : i ≡ k = omega arith in subst (λ j. Holds slots (at + j) (h.address + j) j h.count) z here)
-              (cases_lt k i);
-        }
+    due = nth_head h.number h.address h.count i
 
     -- where one is not, no write stands
-    pub not_going : (blocks left : ℕ) → i < h.count → (next ≡ due → ⊥) → (a n : ℕ) → Stands slots blocks at a n → left < n
-    not_going blocks left below other a n st =
+    pub not_going : i < h.count → (next ≡ due → ⊥) → (a n : ℕ) → Stands slots blocks at a n → left < n
+    not_going below other a n st =
         let f = first blocks a n st in
         let address : h.address ≡ a = ap (λ x. x.address) is ∙ f.address in
         let count : h.count ≡ n = ap (λ x. x.count) is ∙ f.count in
         let x = st.each i (omega arith) in
-        let num : next.number ≡ at + i = ap (λ y. y.number) read ∙ x.number in
+        let num : next.number ≡ h.number + i = ap (λ y. y.number) read ∙ x.number ∙ ap (λ r. r + i) (sym begun.number) in
         let adr : next.address ≡ h.address + i = ap (λ y. y.address) read ∙ x.address ∙ ap (λ b. b + i) (sym address) in
         let ind : next.index ≡ i = ap (λ y. y.index) read ∙ x.index in
         let cnt : next.count ≡ h.count = ap (λ y. y.count) read ∙ x.count ∙ sym count in
         absurd (other (λ j. record { number = num j; address = adr j; index = ind j; count = cnt j }))
+
+-- what follows once the head at a record begins a write all of whose slots are as they must be
+pub record More (slots : List Slot) (blocks most from taken : ℕ) (spans : List Span) (h : Head) : Type 0 where
+  pub room : (n : ℕ) → min (length slots) most ≤ n → length spans < n
+  pub less : (n : ℕ) → n ≡ h.count → length slots - (taken + n) < length slots - taken
+  pub next : (n : ℕ) (after : List Span) → n ≡ h.count → after ≡ spans ++ record { address = h.address; count = h.count } ∷ [] → Taken slots blocks most from (taken + n) after
+
+pub more : (slots : List Slot) (blocks most from taken : ℕ) (spans : List Span) (h : Head) (i : ℕ) → 0 < length slots → Taken slots blocks most from taken spans
+    → h ≡ head_of (slot_at slots (from + taken)) → Begins h (from + taken) blocks (most - taken) → Going slots (from + taken) i h → h.count ≤ i → More slots blocks most from taken spans h
+more slots blocks most from taken spans h i some so_far is begun going past =
+    let s : Span = record { address = h.address; count = h.count } in
+    let st = gone slots (from + taken) h is blocks (most - taken) i begun going past in
+    record {
+      room = λ n wide. taken_room slots blocks most from taken spans so_far s st begun.fits n some wide;
+      less = λ n e. taken_less slots blocks most from taken spans so_far s st begun.fits n e some;
+      next = λ n after e added. taken_next slots blocks most from taken spans so_far s st begun.fits n after e added some;
+    }

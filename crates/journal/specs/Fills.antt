@@ -1,5 +1,6 @@
 -- Writing a write's records into their slots.
-use Rattle.std.specs.Prelude.{◌≡◌, ℕ, zero, suc, ◌+◌, ◌*◌, ◌/◌, ◌%◌, ◌^◌, ◌<◌, ◌≤◌, Bool, true, false, cond, not, ◌&&◌, List, length, take, drop, Some, None, Ok, Err, Option, Result, ◌==◌, ◌≢◌, nat_le, nat_lt, slice_index_or, slice_set}
+use Rattle.std.specs.Prelude.{◌≡◌, ℕ, zero, suc, ◌+◌, ◌*◌, ◌/◌, ◌%◌, ◌^◌, ◌<◌, ◌≤◌, Bool, true, cond, not, ◌&&◌, List, length, take, drop, Ok, Err, Result, ◌==◌, ◌≢◌, nat_le, nat_lt, slice_index_or, slice_set}
+use Rattle.std.specs.Simd.{first_chunks}
 use Rattle.drive.specs.Views.{Slot, DriveView, Wrote, slot_count}
 use Rattle.journal.specs.Layout.{block_bytes, slot}
 use Rattle.journal.specs.Writes.{Stands, last_record, most_blocks, slot_at}
@@ -42,10 +43,11 @@ blocks_in bytes = length bytes / block_bytes
 abbrev pub whole_write : List ℕ → Bool
 whole_write bytes = length bytes % block_bytes == 0 && (nat_le 1 (blocks_in bytes) && nat_le (blocks_in bytes) most_blocks)
 
--- The number of blocks is answered exactly for whole writes.
-abbrev pub Counted : List ℕ → Option ℕ → Type 0
-Counted bytes None = whole_write bytes ≡ false
-Counted bytes (Some n) = (whole_write bytes ≡ true) × (n ≡ blocks_in bytes) × (length bytes ≡ block_bytes * n)
+-- The bytes are a whole write, and cut up they are these blocks.
+pub record AreBlocks (bytes : List ℕ) (blocks : List (List ℕ)) : Type 0 where
+  pub whole : whole_write bytes ≡ true
+  pub count : length blocks ≡ blocks_in bytes
+  pub is : blocks ≡ first_chunks block_bytes (blocks_in bytes) bytes
 
 -- The number that a refused write is known by.
 abbrev pub write_number : WriteFault → ℕ

@@ -1,7 +1,6 @@
 pub mod Layout
 pub mod Writes
 pub mod Taken
-pub mod Founds
 pub mod Fills
 pub mod Wipes
 pub mod Example

@@ -1,10 +1,10 @@
 // A record and the slot that holds it.
-ghost use Rattle.std.specs.Prelude.{◌≡◌, length};
-ghost use Rattle.journal.specs.Layout.{SlotsStand, block_bytes, head_of, record_of, slot, slot_of};
-ghost use Rattle.drive.specs.Views.{slot_bytes};
+ghost use Rattle.std.specs.Prelude.{◌≡◌, ◌+◌, ◌^◌, ◌<◌, ◌≤◌};
+ghost use Rattle.journal.specs.Layout.{SlotsStand, head_of, record_of, slot, slot_of};
+ghost use Rattle.journal.specs.Fills.{write_number};
 
 use drive::SLOT_BYTES;
-use endian::{get_u16, get_u32, get_u64, put_part, put_u16, put_u32, put_u64};
+use endian::{get, put, put_part};
 
 pub mod fill;
 
@@ -15,7 +15,7 @@ pub const BLOCK_BYTES: usize = 512;
 const HEAD_BYTES: usize = 16;
 
 // What a slot says of its record: which it is, which block of the volume it is for, and its place in its write.
-#[derive(Clone, Copy)]
+#[derive(Clone, Copy, PartialEq, Eq, Debug)]
 pub struct Head {
     pub number: u64,
     pub address: u32,
@@ -24,53 +24,53 @@ pub struct Head {
 }
 
 // A record: a head and the block that was written.
-#[derive(Clone, Copy)]
+#[derive(Clone, Copy, PartialEq, Eq, Debug)]
 pub struct Record {
     pub head: Head,
     pub block: [u8; BLOCK_BYTES],
 }
 
-// Why a write is refused.
+// Why a write is refused, by its number.
 #[derive(Clone, Copy, PartialEq, Eq, Debug)]
 pub enum WriteFault {
-    TooFar,
-    BadLength,
-    BadAddress,
-    TooFewSlots,
+    TooFar = 1,
+    BadLength = 2,
+    BadAddress = 3,
+    TooFewSlots = 4,
+}
+
+// The number of such a refusal.
+impl From<WriteFault> for u32 {
+    ghost from_gives = { λ fault number. number ≡ write_number fault };
+
+    fn from(fault: WriteFault) -> u32 {
+        fault as u32
+    }
 }
 
 // Writes a record's slot.
-fn put_slot(out: &mut [u8], head: &Head, block: &[u8])
-    requires room { length out.old ≡ slot_bytes }
-    requires whole { length block.now ≡ block_bytes }
+fn put_slot(out: &mut [u8; SLOT_BYTES], head: &Head, block: &[u8; BLOCK_BYTES])
     ensures { out.new ≡ slot head.now block.now }
 {
-    put_u64(out, 0, head.number);
-    put_u32(out, 8, head.address);
-    put_u16(out, 12, head.index);
-    put_u16(out, 14, head.count);
+    put(out, 0, head.number);
+    put(out, 8, head.address);
+    put(out, 12, head.index);
+    put(out, 14, head.count);
     put_part(out, HEAD_BYTES, block);
-}
-
-// The head of a slot.
-fn get_head(bytes: &[u8]) -> Head
-    requires { length bytes.now ≡ slot_bytes }
-    ensures { result ≡ head_of bytes.now }
-{
-    Head {
-        number: get_u64(bytes, 0).unwrap(),
-        address: get_u32(bytes, 8).unwrap(),
-        index: get_u16(bytes, 12).unwrap(),
-        count: get_u16(bytes, 14).unwrap(),
-    }
 }
 
 impl Head {
     // The head that a slot holds, whatever its bytes are.
+    #[tactic(auto, using(endian::proofs::Laws::unle_le))]
     pub fn read_from(bytes: &[u8; SLOT_BYTES]) -> Head
         ensures { result ≡ head_of bytes.now }
     {
-        get_head(bytes)
+        Head {
+            number: get(bytes, 0).unwrap(),
+            address: get(bytes, 8).unwrap(),
+            index: get(bytes, 12).unwrap(),
+            count: get(bytes, 14).unwrap(),
+        }
     }
 }
 
@@ -96,8 +96,6 @@ impl Record {
 }
 
 // Every record has one slot, and every slot is that of one record.
-pub fn one_slot_each() -> u8
+pub fn one_slot_each()
     ensures { SlotsStand }
-{
-    0
-}
+{}

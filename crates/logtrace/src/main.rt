@@ -5,8 +5,7 @@ use drive::{BufferedDrive, DirectDrive, Drive, MakeFault, SLOT_BYTES};
 use journal::found::Found;
 use journal::found::scan::scan;
 use journal::record::fill::write_records;
-use journal::record::{BLOCK_BYTES, Head, Record, WriteFault};
-use journal::span::ScanFault;
+use journal::record::{BLOCK_BYTES, Head, Record};
 use journal::wipe::wipe;
 use std::io;
 
@@ -23,15 +22,13 @@ fn show<D: Drive>(
     match scan(drive, blocks, from, most, found) {
         Ok(end) => {
             for span in found.spans() {
-                let address = span.address;
-                let count = span.count;
-                print!(rt; " {address}+{count}")?;
+                print!(rt; " {}+{}", span.address, span.count)?;
             }
-            println!(rt; " ends at {end}")
+            println!(rt; " ends at {end}")?;
         }
-        Err(ScanFault::TooFar) => println!(rt; " no 1"),
-        Err(ScanFault::NoRoom) => println!(rt; " no 2"),
+        Err(fault) => println!(rt; " no {}", u32::from(fault))?,
     }
+    Ok(())
 }
 
 // Writes some blocks of one byte, and prints how that went.
@@ -45,13 +42,11 @@ fn put<D: Drive>(
     let bytes = [7; 5000];
     let length = length.min(5000);
     print!(rt; "  write of {length} bytes at {address}, from {from}:")?;
-    match write_records(drive, from, address, &bytes[0..length]) {
-        Ok(()) => println!(rt; " ok"),
-        Err(WriteFault::TooFar) => println!(rt; " no 1"),
-        Err(WriteFault::BadLength) => println!(rt; " no 2"),
-        Err(WriteFault::BadAddress) => println!(rt; " no 3"),
-        Err(WriteFault::TooFewSlots) => println!(rt; " no 4"),
+    match write_records(drive, from, address, &bytes[..length]) {
+        Ok(()) => println!(rt; " ok")?,
+        Err(fault) => println!(rt; " no {}", u32::from(fault))?,
     }
+    Ok(())
 }
 
 // Puts a record into a slot, whichever it belongs to.
@@ -60,48 +55,71 @@ fn poke<D: Drive>(rt: &HostRuntime, drive: &mut D, slot: u32, head: Head) -> io:
     let block = [9; BLOCK_BYTES];
     Record { head, block }.write_to(&mut bytes);
     match drive.write(slot, &bytes) {
-        Ok(()) => println!(rt; "  slot {slot} poked"),
-        Err(_) => println!(rt; "  slot {slot} refused"),
+        Ok(()) => println!(rt; "  slot {slot} poked")?,
+        Err(_) => println!(rt; "  slot {slot} refused")?,
     }
+    Ok(())
 }
 
 // Prints the record that a slot reads as.
 fn peek<D: Drive>(rt: &HostRuntime, drive: &D, slot: u32) -> io::Result<()> {
     let mut bytes = [0; SLOT_BYTES];
     if drive.read(slot, &mut bytes).is_err() {
-        return println!(rt; "  slot {slot}: none");
+        println!(rt; "  slot {slot}: none")?;
+        return Ok(());
     }
-    let record = Record::read_from(&bytes);
-    let number = record.head.number;
-    let address = record.head.address;
-    let index = record.head.index;
-    let count = record.head.count;
-    let byte = record.block[0];
-    println!(rt; "  slot {slot}: record {number} for {address}, {index} of {count}, {byte}s")
+    let Record { head, block } = Record::read_from(&bytes);
+    print!(rt;
+        "  slot {slot}: record {} for {}, ",
+        head.number, head.address
+    )?;
+    println!(rt; "{} of {}, {}s", head.index, head.count, block[0])?;
+    Ok(())
+}
+
+// The drive, if there is memory for it; else says that there is none.
+fn held<D: Drop>(rt: &HostRuntime, drive: Result<D, MakeFault>) -> io::Result<Option<D>> {
+    match drive {
+        Ok(drive) => Ok(Some(drive)),
+        Err(_) => {
+            println!(rt; "no drive")?;
+            Ok(None)
+        }
+    }
+}
+
+// A drive that makes nothing safe before a flush.
+fn buffered(rt: &HostRuntime, slots: u32) -> io::Result<Option<BufferedDrive>> {
+    held(rt, BufferedDrive::new(rt.alloc(), slots))
+}
+
+// A drive that makes each write safe at once.
+fn direct(rt: &HostRuntime, slots: u32) -> io::Result<Option<DirectDrive>> {
+    held(rt, DirectDrive::new(rt.alloc(), slots))
 }
 
 // Two whole writes, and a drive of zeros.
 fn whole(rt: &HostRuntime) -> io::Result<()> {
     println!(rt; "whole")?;
     let mut found = Found::with_room(rt.alloc(), 16)?;
-    let Ok(mut drive) = BufferedDrive::new(rt.alloc(), 16) else {
-        return println!(rt; "no drive");
+    let Some(mut drive) = buffered(rt, 16)? else {
+        return Ok(());
     };
     show(rt, &drive, 8, 0, 16, &mut found)?;
     put(rt, &mut drive, 0, 2, 1024)?;
     put(rt, &mut drive, 2, 5, 1536)?;
-    show(rt, &drive, 8, 0, 16, &mut found)?;
-    show(rt, &drive, 8, 2, 16, &mut found)?;
-    show(rt, &drive, 8, 1, 16, &mut found)?;
-    show(rt, &drive, 8, 5, 16, &mut found)
+    for from in [0, 2, 1, 5] {
+        show(rt, &drive, 8, from, 16, &mut found)?;
+    }
+    Ok(())
 }
 
 // A write of two, and half of another.
 fn torn(rt: &HostRuntime) -> io::Result<()> {
     println!(rt; "torn")?;
     let mut found = Found::with_room(rt.alloc(), 16)?;
-    let Ok(mut drive) = BufferedDrive::new(rt.alloc(), 4) else {
-        return println!(rt; "no drive");
+    let Some(mut drive) = buffered(rt, 4)? else {
+        return Ok(());
     };
     put(rt, &mut drive, 0, 2, 1024)?;
     poke(rt, &mut drive, 2, head(2, 5, 0, 2))?;
@@ -115,19 +133,25 @@ fn torn(rt: &HostRuntime) -> io::Result<()> {
 fn limits(rt: &HostRuntime) -> io::Result<()> {
     println!(rt; "limits")?;
     let mut found = Found::with_room(rt.alloc(), 4)?;
-    let Ok(mut drive) = BufferedDrive::new(rt.alloc(), 16) else {
-        return println!(rt; "no drive");
+    let Some(mut drive) = buffered(rt, 16)? else {
+        return Ok(());
     };
     put(rt, &mut drive, 0, 2, 1024)?;
     put(rt, &mut drive, 2, 5, 1536)?;
-    show(rt, &drive, 8, 0, 4, &mut found)?;
-    show(rt, &drive, 8, 0, 2, &mut found)?;
-    show(rt, &drive, 8, 0, 1, &mut found)?;
-    show(rt, &drive, 7, 2, 4, &mut found)?;
-    show(rt, &drive, 8, 2, 4, &mut found)?;
-    show(rt, &drive, 8, 0, 5, &mut found)?;
-    show(rt, &drive, 8, 1 << 41, 4, &mut found)?;
-    show(rt, &drive, 8, (1 << 41) + 1, 4, &mut found)
+    let asked = [
+        (8, 0, 4),
+        (8, 0, 2),
+        (8, 0, 1),
+        (7, 2, 4),
+        (8, 2, 4),
+        (8, 0, 5),
+        (8, 1 << 41, 4),
+        (8, (1 << 41) + 1, 4),
+    ];
+    for (blocks, from, most) in asked {
+        show(rt, &drive, blocks, from, most, &mut found)?;
+    }
+    Ok(())
 }
 
 // What a slot says of its record.
@@ -144,8 +168,8 @@ fn head(number: u64, address: u32, index: u16, count: u16) -> Head {
 fn disagreeing(rt: &HostRuntime) -> io::Result<()> {
     println!(rt; "disagreeing")?;
     let mut found = Found::with_room(rt.alloc(), 16)?;
-    let Ok(mut drive) = BufferedDrive::new(rt.alloc(), 16) else {
-        return println!(rt; "no drive");
+    let Some(mut drive) = buffered(rt, 16)? else {
+        return Ok(());
     };
     let heads = [
         head(1, 4, 1, 3),
@@ -167,24 +191,24 @@ fn disagreeing(rt: &HostRuntime) -> io::Result<()> {
 fn stale(rt: &HostRuntime) -> io::Result<()> {
     println!(rt; "stale")?;
     let mut found = Found::with_room(rt.alloc(), 4)?;
-    let Ok(mut drive) = BufferedDrive::new(rt.alloc(), 4) else {
-        return println!(rt; "no drive");
+    let Some(mut drive) = buffered(rt, 4)? else {
+        return Ok(());
     };
     put(rt, &mut drive, 0, 0, 1024)?;
     put(rt, &mut drive, 2, 0, 1024)?;
     put(rt, &mut drive, 4, 6, 512)?;
-    show(rt, &drive, 8, 4, 4, &mut found)?;
-    show(rt, &drive, 8, 2, 4, &mut found)?;
-    show(rt, &drive, 8, 0, 4, &mut found)?;
-    show(rt, &drive, 8, 5, 4, &mut found)
+    for from in [4, 2, 0, 5] {
+        show(rt, &drive, 8, from, 4, &mut found)?;
+    }
+    Ok(())
 }
 
 // Writes that pass the end of the drive; no more records are taken than there are slots.
 fn wrapped(rt: &HostRuntime) -> io::Result<()> {
     println!(rt; "wrapped")?;
     let mut found = Found::with_room(rt.alloc(), 3)?;
-    let Ok(mut drive) = BufferedDrive::new(rt.alloc(), 3) else {
-        return println!(rt; "no drive");
+    let Some(mut drive) = buffered(rt, 3)? else {
+        return Ok(());
     };
     put(rt, &mut drive, 5, 1, 1024)?;
     put(rt, &mut drive, 7, 0, 512)?;
@@ -199,21 +223,25 @@ fn refusals(rt: &HostRuntime) -> io::Result<()> {
     println!(rt; "refusals")?;
     match DirectDrive::new(rt.alloc(), 0) {
         Ok(_) => println!(rt; "  a drive of none")?,
-        Err(MakeFault::NoSlots) => println!(rt; "  no 1")?,
-        Err(MakeFault::NoMemory) => println!(rt; "  no 2")?,
+        Err(fault) => println!(rt; "  no {}", u32::from(fault))?,
     }
-    let Ok(mut drive) = DirectDrive::new(rt.alloc(), 4) else {
-        return println!(rt; "no drive");
+    let Some(mut drive) = direct(rt, 4)? else {
+        return Ok(());
     };
     peek(rt, &drive, 3)?;
     peek(rt, &drive, 4)?;
-    put(rt, &mut drive, (1 << 41) + 1, 0, 512)?;
-    put(rt, &mut drive, 0, 0, 0)?;
-    put(rt, &mut drive, 0, 0, 513)?;
-    put(rt, &mut drive, 0, 0, 4608)?;
-    put(rt, &mut drive, 0, 4294967295, 1024)?;
-    put(rt, &mut drive, 0, 0, 2560)?;
-    put(rt, &mut drive, 0, 4294967295, 512)?;
+    let writes = [
+        ((1 << 41) + 1, 0, 512),
+        (0, 0, 0),
+        (0, 0, 513),
+        (0, 0, 4608),
+        (0, 4294967295, 1024),
+        (0, 0, 2560),
+        (0, 4294967295, 512),
+    ];
+    for (from, address, length) in writes {
+        put(rt, &mut drive, from, address, length)?;
+    }
     peek(rt, &drive, 0)
 }
 
@@ -236,33 +264,31 @@ fn cut_one<D: Drive>(rt: &HostRuntime, drive: &mut D, found: &mut Found) -> io::
 // The same on both drives.
 fn cuts(rt: &HostRuntime) -> io::Result<()> {
     let mut found = Found::with_room(rt.alloc(), 8)?;
-    let Ok(mut buffered) = BufferedDrive::new(rt.alloc(), 8) else {
-        return println!(rt; "no drive");
+    let Some(mut behind) = buffered(rt, 8)? else {
+        return Ok(());
     };
     println!(rt; "a buffered drive")?;
-    cut_one(rt, &mut buffered, &mut found)?;
-    let Ok(mut direct) = DirectDrive::new(rt.alloc(), 8) else {
-        return println!(rt; "no drive");
+    cut_one(rt, &mut behind, &mut found)?;
+    let Some(mut through) = direct(rt, 8)? else {
+        return Ok(());
     };
     println!(rt; "a direct drive")?;
-    cut_one(rt, &mut direct, &mut found)
+    cut_one(rt, &mut through, &mut found)
 }
 
 // Only the records of a run are left.
 fn wipes(rt: &HostRuntime) -> io::Result<()> {
     println!(rt; "wiped")?;
-    let Ok(mut drive) = BufferedDrive::new(rt.alloc(), 4) else {
-        return println!(rt; "no drive");
+    let Some(mut drive) = buffered(rt, 4)? else {
+        return Ok(());
     };
     put(rt, &mut drive, 0, 0, 2048)?;
     put(rt, &mut drive, 4, 4, 512)?;
-    wipe(&mut drive, 2, 5);
-    for slot in 0..4 {
-        peek(rt, &drive, slot)?;
-    }
-    wipe(&mut drive, 3, 4);
-    for slot in 0..4 {
-        peek(rt, &drive, slot)?;
+    for (from, upto) in [(2, 5), (3, 4)] {
+        wipe(&mut drive, from, upto);
+        for slot in 0..4 {
+            peek(rt, &drive, slot)?;
+        }
     }
     Ok(())
 }

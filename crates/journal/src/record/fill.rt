@@ -1,53 +1,45 @@
 // Writing a write's records into their slots.
-ghost use Rattle.std.specs.Prelude.{◌≡◌, ◌+◌, ◌*◌, ◌%◌, ◌^◌, ◌<◌, ◌≤◌, length};
+ghost use Rattle.std.specs.Prelude.{◌≡◌, ℕ, ◌%◌, List, length, false, MatchOption};
 ghost use Rattle.drive.specs.Views.{Wrote, slot_count};
-ghost use Rattle.journal.specs.Layout.{block_bytes, slot};
-ghost use Rattle.journal.specs.Writes.{last_record};
-ghost use Rattle.journal.specs.Fills.{Counted, Filled, Filling, WritesStand};
+ghost use Rattle.journal.specs.Layout.{slot_of};
+ghost use Rattle.journal.specs.Fills.{AreBlocks, Filled, Filling, WritesStand, whole_write};
 
-use crate::record::{BLOCK_BYTES, Head, WriteFault, put_slot};
-use crate::{LAST_RECORD, MOST_BLOCKS};
+use crate::record::{BLOCK_BYTES, Head, Record, WriteFault};
+use crate::{LAST_RECORD, MOST_BLOCKS, Write};
 use drive::{Drive, SLOT_BYTES};
 
 // Puts one record into its slot.
-fn put_record<D: Drive>(drive: &mut D, head: &Head, block: &[u8], buffer: &mut [u8; SLOT_BYTES])
-    requires { length block.now ≡ block_bytes }
-    ensures { Wrote (D.Drive.meaning drive.old) (head.now.number % slot_count (D.Drive.meaning drive.old)) (slot head.now block.now) (D.Drive.meaning drive.new) }
+fn put_record<D: Drive>(drive: &mut D, record: &Record)
+    ensures { Wrote (D.meaning drive.old) (record.now.head.number % slot_count (D.meaning drive.old)) (slot_of record.now) (D.meaning drive.new) }
 {
-    put_slot(buffer, head, block);
-    let place = head.number % u64::from(drive.slots());
-    let _ = drive.write(place as u32, buffer);
+    let mut bytes = [0; SLOT_BYTES];
+    record.write_to(&mut bytes);
+    let place = record.head.number % u64::from(drive.slots());
+    let _ = drive.write(place as u32, &bytes);
 }
 
-// Puts the records of a write of some blocks into their slots.
-fn put_records<D: Drive>(drive: &mut D, from: u64, address: u32, blocks: &[u8], count: u16)
-    requires near { from ≤ last_record }
-    requires whole { length blocks.now ≡ block_bytes * count }
-    requires inside { address + count ≤ 2 ^ 32 }
-    ensures { Filled (D.Drive.meaning drive.old) from address count blocks.now (D.Drive.meaning drive.new) }
+// Puts the records of a write of these blocks into their slots.
+fn put_records<D: Drive>(drive: &mut D, write: Write, blocks: &[[u8; BLOCK_BYTES]])
+    requires { length blocks.now ≡ write.first.count }
+    ensures { let first = write.first in (bytes : List ℕ) → AreBlocks bytes blocks.now → Filled (D.meaning drive.old) first.number first.address first.count bytes (D.meaning drive.new) }
 {
-    let mut buffer = [0; SLOT_BYTES];
-    for i in 0..count {
-        let head = Head {
-            number: from + u64::from(i),
-            address: address + u32::from(i),
-            index: i,
-            count,
+    for (i, block) in blocks.iter().enumerate() {
+        let head = write.head(i as u16);
+        let record = Record {
+            head,
+            block: *block,
         };
-        let at = usize::from(i) * BLOCK_BYTES;
-        put_record(drive, &head, &blocks[at..at + BLOCK_BYTES], &mut buffer);
+        put_record(drive, &record);
     }
 }
 
-// The number of whole blocks that the bytes are, if these are as many as a write covers.
-fn whole_blocks(blocks: &[u8]) -> Option<u16>
-    ensures { Counted blocks.now result }
+// The whole blocks that the bytes are, if these are as many as a write covers.
+fn whole_blocks(bytes: &[u8]) -> Option<&[[u8; BLOCK_BYTES]]>
+    ensures { MatchOption result (whole_write bytes.now ≡ false) (λ blocks. AreBlocks bytes.now blocks.now) }
 {
-    let count = blocks.len() / BLOCK_BYTES;
-    if blocks.len() % BLOCK_BYTES != 0 || count < 1 || count > usize::from(MOST_BLOCKS) {
-        return None;
-    }
-    Some(count as u16)
+    let (blocks, rest) = bytes.as_chunks::<BLOCK_BYTES>();
+    let whole = rest.is_empty() && !blocks.is_empty() && blocks.len() <= usize::from(MOST_BLOCKS);
+    whole.then_some(blocks)
 }
 
 // Puts the records of one write into their slots: blocks for the addresses from that one on, records from that one on.
@@ -57,27 +49,30 @@ pub fn write_records<D: Drive>(
     address: u32,
     blocks: &[u8],
 ) -> Result<(), WriteFault>
-    ensures { Filling (D.Drive.meaning drive.old) from address blocks.now result (D.Drive.meaning drive.new) }
+    ensures { Filling (D.meaning drive.old) from address blocks.now result (D.meaning drive.new) }
 {
     if from > LAST_RECORD {
         return Err(WriteFault::TooFar);
     }
-    let Some(count) = whole_blocks(blocks) else {
-        return Err(WriteFault::BadLength);
-    };
+    let blocks = whole_blocks(blocks).ok_or(WriteFault::BadLength)?;
+    let count = blocks.len() as u16;
     if u64::from(address) + u64::from(count) > 1 << 32 {
         return Err(WriteFault::BadAddress);
     }
     if u32::from(count) > drive.slots() {
         return Err(WriteFault::TooFewSlots);
     }
-    put_records(drive, from, address, blocks, count);
+    let first = Head {
+        number: from,
+        address,
+        index: 0,
+        count,
+    };
+    put_records(drive, Write { first }, blocks);
     Ok(())
 }
 
 // A write that is not refused leaves each of its slots with its record and the others as they were, and stands.
-pub fn writes_stand() -> u8
+pub fn writes_stand()
     ensures { WritesStand }
-{
-    0
-}
+{}

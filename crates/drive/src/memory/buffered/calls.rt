@@ -5,7 +5,7 @@ ghost use Rattle.drive.specs.Held.{buffered};
 ghost use Rattle.std.proofs.Common.{rules};
 
 use super::BufferedDrive;
-use crate::memory::zeros;
+use crate::memory::{take_over, zeros};
 use crate::{Drive, DriveFault, MakeFault, SLOT_BYTES};
 use std::alloc::Global;
 
@@ -33,6 +33,7 @@ impl Drive for BufferedDrive {
         self.current.read(slot, out)
     }
 
+    #[tactic(auto, using(crate::proofs::Drives::wrote_kept))]
     fn write(&mut self, slot: u32, bytes: &[u8; SLOT_BYTES]) -> Result<(), DriveFault>
         ensures write { Write (buffered self.old) slot bytes.now result (buffered self.new) }
         ensures settles { OnOk result (buffered self.new ≡ wrote_current (buffered self.old) slot bytes.now) }
@@ -41,15 +42,19 @@ impl Drive for BufferedDrive {
     }
 
     fn flush(&mut self) {
-        self.safe.copy(&self.current);
+        let safe = &mut self.safe;
+        let current = &self.current;
+        safe.slots.copy_from_slice(&current.slots);
     }
 
     fn cut(&mut self, kept: u64)
         ensures cut { Cut (buffered self.old) (buffered self.new) }
         ensures settles { buffered self.new ≡ cut_by (bit kept) (buffered self.old) }
     {
-        self.safe.keep(&self.current, kept);
-        self.current.copy(&self.safe);
+        let safe = &mut self.safe;
+        let current = &mut self.current;
+        take_over(&mut safe.slots, &current.slots, kept);
+        current.slots.copy_from_slice(&safe.slots);
     }
 
     fn blank(&mut self) {

