@@ -5,10 +5,10 @@ use Rattle.std.proofs.lemmas.List.{at_drop_all}
 use Rattle.extents.specs.declared.extent.Extent.{Extent}
 use Rattle.extents.specs.declared.fault.MapFault.{MapFault}
 use Rattle.extents.specs.declared.target.Place.{Place}
-use Rattle.extents.specs.declared.table.rows.Rows.{Rows}
+use Rattle.extents.specs.Mapped.{Mapped}
 use Rattle.extents.specs.Map.{extent, covers, target_in}
 use Rattle.extents.specs.Kinds.{place, place_advanced, place_same, place_fits}
-use Rattle.extents.specs.Faults.{fault_number, extent_refusal}
+use Rattle.extents.specs.Faults.{extent_refusal}
 use Rattle.extents.specs.Answers.{overlaid, Inserted}
 use Rattle.objects.specs.declared.entry.Entry.{Entry}
 use Rattle.objects.specs.Layout.{payload_offset, total}
@@ -16,14 +16,11 @@ use Rattle.objects.specs.Rules.{every, entry_fits}
 use Rattle.objects.specs.Applying.{laid, places}
 use Rattle.objects.proofs.Loops.{left_more, total_more}
 
-pub some_none : (n : ℕ) → Some n ≡ None → ⊥
-some_none n e = let z : ◌≡◌ {A = ℕ} 0 1 = cc in omega arith
-
 -- an insertion that is not to be refused is made
-pub insert_goes : (e : Extent Place) (m w : Rows Place) (r : Result (Unit {0}) MapFault) → extent_refusal place_advanced place_fits m.blocks e ≡ None → Inserted place_advanced place_same place_fits e m r w
+pub insert_goes : (e : Extent Place) (m w : Mapped Place) (r : Result (Unit {0}) MapFault) → extent_refusal place_advanced place_fits m.blocks e ≡ None → Inserted place_advanced place_same place_fits e m r w
     → (w.blocks ≡ m.blocks) × ((b : ℕ) → places w b ≡ overlaid place_advanced e (places m) b)
 insert_goes e m w (Ok u) none h = (h.1, h.3)
-insert_goes e m w (Err f) none h = absurd (some_none (fault_number f) (sym h.0 ∙ none))
+insert_goes e m w (Err f) none h = let refused = sym h.0 ∙ none in cc
 
 -- an entry that keeps its rules is not refused
 pub entry_goes : (number at blocks : ℕ) (e : Entry) → entry_fits 32 blocks e ≡ true → at < 65536 → extent_refusal place_advanced place_fits blocks (extent e.address e.count (place number at)) ≡ None
@@ -62,7 +59,7 @@ pub laid_all : (number entries before : ℕ) (es : List Entry) (i : ℕ) (f : �
 laid_all number entries before es i f h b = at_drop_all (λ l. laid number entries before l f b) es i h
 
 -- what an object that carries blocks has laid so far
-pub record Lays (number entries before : ℕ) (es : List Entry) (i : ℕ) (start m : Rows Place) : Type 0 where
+pub record Lays (number entries before : ℕ) (es : List Entry) (i : ℕ) (start m : Mapped Place) : Type 0 where
   pub fit : every (entry_fits 32 m.blocks) (drop i es) ≡ true
   pub sum : before + total (drop i es) ≡ total es
   pub blocks_stay : m.blocks ≡ start.blocks
@@ -72,7 +69,7 @@ pub lay_small : (before : ℕ) (es : List Entry) (i : ℕ) (e : Entry) → i < l
 lay_small before es i e h is sum most = let more = total_more es i before e h is sum in omega arith
 
 -- one more
-pub lay_more : (number entries before : ℕ) (es : List Entry) (i : ℕ) (e : Entry) (start m w : Rows Place) (r : Result (Unit {0}) MapFault)
+pub lay_more : (number entries before : ℕ) (es : List Entry) (i : ℕ) (e : Entry) (start m w : Mapped Place) (r : Result (Unit {0}) MapFault)
     → i < length es → get_or es i e ≡ e → entries ≤ 32 → total es ≤ 32 → Lays number entries before es i start m
     → Inserted place_advanced place_same place_fits (extent e.address e.count (place number (payload_offset entries before))) m r w
     → Lays number entries (before + e.count) es (i + 1) start w
@@ -88,8 +85,8 @@ lay_more number entries before es i e start m w r h is few most l done =
       rest = λ b. laid_more number entries before es i e (places m) (places w) h is g.1 b ∙ l.rest b;
     }
 
-pub lay_none : (number entries : ℕ) (es : List Entry) (m : Rows Place) → every (entry_fits 32 m.blocks) es ≡ true → Lays number entries 0 es 0 m m
+pub lay_none : (number entries : ℕ) (es : List Entry) (m : Mapped Place) → every (entry_fits 32 m.blocks) es ≡ true → Lays number entries 0 es 0 m m
 lay_none number entries es m fit = record { fit = fit; sum = omega arith; blocks_stay = refl; rest = λ b. refl }
 
-pub lay_all : (number entries before : ℕ) (es : List Entry) (i : ℕ) (start m : Rows Place) → length es ≤ i → Lays number entries before es i start m → (b : ℕ) → places m b ≡ laid number entries 0 es (places start) b
+pub lay_all : (number entries before : ℕ) (es : List Entry) (i : ℕ) (start m : Mapped Place) → length es ≤ i → Lays number entries before es i start m → (b : ℕ) → places m b ≡ laid number entries 0 es (places start) b
 lay_all number entries before es i start m h l b = sym (laid_all number entries before es i (places m) h b) ∙ l.rest b

@@ -10,3 +10,6 @@ pub mod Laying
 pub mod Setting
 pub mod Taking
 pub mod Built
+pub mod Parts
+pub mod Chains
+pub mod Checked

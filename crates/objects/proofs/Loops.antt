@@ -2,12 +2,9 @@
 use Rattle.std.proofs.Common.{◌≡◌, ℕ, ◌+◌, ◌<◌, ◌≤◌, Bool, true, false, ◌&&◌, eqb, List, ◌∷◌, length, get_or, drop, sym, ap, ◌∙◌, arith}
 use Rattle.std.proofs.lemmas.List.{at_drop_more, at_drop_all}
 use Rattle.std.proofs.lemmas.Bool.{and_left}
-use Rattle.extents.specs.declared.extent.Extent.{Extent}
-use Rattle.extents.specs.declared.target.Place.{Place}
 use Rattle.objects.specs.declared.entry.Entry.{Entry}
 use Rattle.objects.specs.Layout.{total}
 use Rattle.objects.specs.Rules.{every}
-use Rattle.objects.specs.Seen.{follows, chained}
 
 -- a function of what is left, one element on
 pub left_more : {X Y : Type 0} (F : List X → Y) (xs : List X) (i : ℕ) (x : X) → i < length xs → get_or xs i x ≡ x → F (drop i xs) ≡ F (x ∷ drop (i + 1) xs)
@@ -28,13 +25,3 @@ sum_end most blocks tally ok es i sum h inv adds =
     let none = at_drop_all total es i h in
     let same : sum ≡ total es = omega arith in
     ap (λ n. eqb n tally) same ∙ ap (λ b. b && eqb (total es) tally) (sym all)
-
-pub chain_more : (number blocks : ℕ) (xs : List (Extent Place)) (i : ℕ) (b : Bool) (last x : Extent Place) → i < length xs → get_or xs i x ≡ x → follows number blocks last x ≡ true → chained number blocks last (drop i xs) ≡ b → chained number blocks x (drop (i + 1) xs) ≡ b
-chain_more number blocks xs i b last x h is good inv =
-    ap (λ t. t && chained number blocks x (drop (i + 1) xs)) (sym good) ∙ sym (left_more (chained number blocks last) xs i x h is) ∙ inv
-
-pub chain_stop : (number blocks : ℕ) (xs : List (Extent Place)) (i : ℕ) (b : Bool) (last x : Extent Place) → i < length xs → get_or xs i x ≡ x → follows number blocks last x ≡ false → chained number blocks last (drop i xs) ≡ b → b ≡ false
-chain_stop number blocks xs i b last x h is bad inv = sym inv ∙ left_more (chained number blocks last) xs i x h is ∙ and_left (follows number blocks last x) _ bad
-
-pub chain_end : (number blocks : ℕ) (xs : List (Extent Place)) (i : ℕ) (b : Bool) (last : Extent Place) → length xs ≤ i → chained number blocks last (drop i xs) ≡ b → b ≡ true
-chain_end number blocks xs i b last h inv = sym inv ∙ at_drop_all (chained number blocks last) xs i h

@@ -1,11 +1,11 @@
 -- What one put after another leaves in a buffer. Assumes nothing.
-use Rattle.std.proofs.Common.{◌≡◌, ℕ, ◌+◌, ◌-◌, ◌*◌, ◌<◌, ◌≤◌, List, [], ◌∷◌, ◌++◌, length, get_or, take, drop, sym, ap, ◌∙◌, append_assoc, mul-le-mul_left, mul-one, mul-add, arith}
+use Rattle.std.proofs.Common.{◌≡◌, ℕ, ◌+◌, ◌-◌, ◌*◌, ◌<◌, ◌≤◌, List, [], ◌∷◌, ◌++◌, length, get_or, take, drop, sym, ap, ◌∙◌, append_assoc, append-nil, mul-le-mul_left, mul-one, mul-add, arith}
 use Rattle.std.specs.List.{flat_map}
 use Rattle.objects.proofs.Lists.{length_joined}
 use lib.Seq.{take-append-add}
 use borrow.Rule.Slice.PartMut.{put_mid}
-use Rattle.std.proofs.lemmas.List.{length-append, length-take-le, length-drop, drop-drop, drop-take, drop-append-le, take_more, flat_map_more}
-use Rattle.std.proofs.lemmas.Slice.{take-put_mid, take-put_mid_below, drop-put_mid}
+use Rattle.std.proofs.lemmas.List.{length-append, length-take-le, length-drop, drop-drop, drop-take, drop_all, drop-append-le, take_more, flat_map_more}
+use Rattle.std.proofs.lemmas.Slice.{take-put_mid, drop-put_mid}
 use Rattle.endian.specs.Fields.{placed}
 use Rattle.endian.proofs.Laws.{placed_is}
 
@@ -24,15 +24,10 @@ put_on at n m next xs ys zs mid after room long is-next first put =
     let back : drop m (drop next mid) ≡ drop (n + m) (drop at xs) = drop-drop m next mid ∙ whole ∙ ap (λ k. drop k xs) (sym sum) ∙ sym (drop-drop (n + m) at xs) in
     put ∙ ap (λ l. l ++ (zs ++ drop m (drop next mid))) front ∙ ap (λ l. (take at xs ++ ys) ++ (zs ++ l)) back ∙ simp append_assoc
 
--- a put right after a part
-pub put_more : (at n m next : ℕ) (xs ys zs mid after : List ℕ) → at + n + m ≤ length xs → length ys ≡ n → next ≡ at + n → mid ≡ put_mid at n xs ys → after ≡ placed next m zs mid → after ≡ put_mid at (n + m) xs (ys ++ zs)
-put_more at n m next xs ys zs mid after room long is-next first second =
-    let size : length mid ≡ length xs = ap length first ∙ length_put_mid at n xs ys (omega arith) long in
-    put_on at n m next xs ys zs mid after room long is-next first (second ∙ placed_is next m zs mid (omega arith))
-
--- the first put
-pub put_first : (at n : ℕ) (xs ys after : List ℕ) → at + n ≤ length xs → after ≡ placed at n ys xs → after ≡ put_mid at n xs ys
-put_first at n xs ys after room e = e ∙ placed_is at n ys xs room
+-- a part of a fixed count of bytes that has room
+pub put_part_of : (at n : ℕ) (mid part bytes after : List ℕ) → after ≡ placed at (length part) part mid → part ≡ bytes → length bytes ≡ n → at + n ≤ length mid → after ≡ put_mid at n mid bytes
+put_part_of at n mid part bytes after put is long room =
+    put ∙ ap (λ p. placed at (length p) p mid) is ∙ ap (λ k. placed at k bytes mid) long ∙ placed_is at n bytes mid room
 
 -- what stands from a base on grows by a part that is put at its end
 pub grown : (base n m at : ℕ) (xs ys : List ℕ) → at + m ≤ length xs → length ys ≡ m → at ≡ base + n → take (n + m) (drop base (put_mid at m xs ys)) ≡ take n (drop base xs) ++ ys
@@ -42,10 +37,6 @@ grown base n m at xs ys room long is =
     let front : length (take at xs) ≡ at = length-take-le at xs (omega arith) in
     sym (drop-take base (n + m) (put_mid at m xs ys)) ∙ ap (drop base) whole ∙ drop-append-le base (take at xs) ys (omega arith)
     ∙ ap (λ k. drop base (take k xs) ++ ys) is ∙ ap (λ l. l ++ ys) (drop-take base n xs)
-
--- what stands before a part that is put stays
-pub stays_before : (at m k : ℕ) (xs ys : List ℕ) → k ≤ at → at ≤ length xs → take k (put_mid at m xs ys) ≡ take k xs
-stays_before at m k xs ys low room = take-put_mid_below at m xs ys k low room
 
 -- a part at the front, and so much of what follows
 pub headed : (n m : ℕ) (xs ys : List ℕ) → length ys ≡ n → take (n + m) (put_mid 0 n xs ys) ≡ ys ++ take m (drop n xs)
@@ -64,3 +55,7 @@ put_thing enc step base each things i at x xs mid after h is room place first pu
     let text : flat_map enc (take (i + 1) things) ≡ flat_map enc (take i things) ++ enc x = ap (flat_map enc) more ∙ sym (flat_map_more enc [] (take i things) x) in
     put_on base (step * i) step at xs (flat_map enc (take i things)) (enc x) mid after (omega arith) long place first put
     ∙ ap (λ k. put_mid base k xs (flat_map enc (take i things) ++ enc x)) (sym p) ∙ ap (put_mid base (step * (i + 1)) xs) (sym text)
+
+-- a part that covers all the bytes
+pub put_whole : (n : ℕ) (xs ys : List ℕ) → length xs ≤ n → put_mid 0 n xs ys ≡ ys
+put_whole n xs ys all = ap (λ l. ys ++ l) (drop_all n xs all) ∙ append-nil ys

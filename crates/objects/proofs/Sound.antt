@@ -1,7 +1,7 @@
 -- The check of bytes finds exactly the undamaged objects. Assumes nothing.
-use Rattle.std.proofs.Common.{◌≡◌, ℕ, ◌+◌, ◌*◌, ◌^◌, ◌<◌, ◌≤◌, Bool, true, false, cond, ◌&&◌, eqb, ltb, leb, ◌⊎◌, List, [], ◌++◌, length, take, drop, Ok, Err, Result, sym, refl, ap, ◌∙◌, subst, inl, inr, ⊎_elim, append-nil, arith}
+use Rattle.std.proofs.Common.{◌≡◌, ℕ, ◌+◌, ◌*◌, ◌^◌, ◌<◌, ◌≤◌, Bool, true, false, cond, ◌&&◌, eqb, ltb, leb, ◌⊎◌, List, [], ◌++◌, length, take, drop, Ok, Err, IfErr, Result, sym, refl, ap, ◌∙◌, inl, inr, ⊎_elim, append-nil, arith}
 use Rattle.std.specs.List.{flat_map}
-use Rattle.std.proofs.lemmas.Bool.{and_parts, and_from, and_left, and_right, leb-true, eqb-true, le-leb, lt-ltb, eq-eqb, false≢true, both_ways}
+use Rattle.std.proofs.lemmas.Bool.{and_parts, and_from, leb-true, eqb-true, le-leb, lt-ltb, eq-eqb, false≢true, both_ways}
 use Rattle.std.proofs.lemmas.List.{take-append-drop, drop-drop, length-drop, length-append, drop_all}
 use Rattle.extents.specs.declared.extent.Extent.{Extent}
 use Rattle.extents.specs.declared.target.Place.{Place}
@@ -9,11 +9,12 @@ use Rattle.objects.specs.declared.header.Header.{Header}
 use Rattle.objects.specs.declared.entry.Entry.{Entry}
 use Rattle.objects.specs.declared.entry.Carrier.{Carrier}
 use Rattle.objects.specs.declared.entry.Carrier.TheVariants.{Data, Clean}
-use Rattle.objects.specs.Layout.{Object, carrier, checkpoint, carrier_kind, total, header_of, header_bytes, entry_bytes, extent_bytes, written}
+use Rattle.objects.specs.declared.kind.Kind.{Kind}
+use Rattle.objects.specs.declared.kind.Kind.TheVariants.{Checkpoint, Carrier as Carrying}
+use Rattle.objects.specs.Layout.{Object, carrier, checkpoint, carrier_kind, kind_number, total, header_of, header_bytes, entry_bytes, extent_bytes, written}
 use Rattle.objects.specs.Rules.{every, disk_size, most_blocks, entry_fits, extent_fits, valid}
-use Rattle.objects.specs.Seen.{field, header_at, entry_at, extent_at, listed, carrier_at, checkpoint_at, carrier_sound, no_extent, chained, checkpoint_sound, kind_sound, framed, belongs, sound}
-use Rattle.objects.specs.declared.damaged.Damaged.{Damaged}
-use Rattle.objects.specs.Reading.{Undamaged, IsDamaged, NoCheckpoint, Read, ReadCheckpoint}
+use Rattle.objects.specs.Seen.{field, header_at, entry_at, extent_at, listed, carrier_at, checkpoint_at, carrier_sound, no_extent, chained, checkpoint_sound, kind_sound, framed, sound}
+use Rattle.objects.specs.Reading.{Undamaged, IsDamaged, NoCheckpoint}
 use Rattle.objects.proofs.Widths.{Bytes, field_small}
 use Rattle.objects.proofs.Lists.{length_listed, joined_listed, length_joined}
 use Rattle.objects.proofs.Tables.{table_from_chain, chain_from_table, may_begin}
@@ -177,43 +178,41 @@ pub header_found : (blocks name : ℕ) (o : Object) (bytes : List ℕ) → valid
 header_found blocks name (carrier c number first es payload) bytes good is = (carrier_read blocks name c number first es payload bytes (carries blocks name c number first es payload good) (sym is)).0
 header_found blocks name (checkpoint number first size table) bytes good is = (checkpoint_read blocks name number first size table bytes (checks blocks name number first size table good) (sym is)).0
 
--- what the examination of bytes finds
-pub found_undamaged : (blocks name : ℕ) (bytes : List ℕ) (h : Header) → Bytes bytes → name < 2 ^ 32 → framed blocks bytes ≡ true → h ≡ header_at bytes → belongs h name blocks bytes ≡ true → Undamaged blocks name bytes h
-found_undamaged blocks name bytes h each high f is b =
-    let b' : belongs (header_at bytes) name blocks bytes ≡ true = ap (λ x. belongs x name blocks bytes) (sym is) ∙ b in
-    let u = undamaged blocks name bytes each high (and_from _ _ f b') in
-    record { object = u.object; good = u.good; is = u.is; says = u.says ∙ sym is }
-
-pub unframed : (blocks name : ℕ) (bytes : List ℕ) → framed blocks bytes ≡ false → IsDamaged blocks name bytes
-unframed blocks name bytes f = damaged blocks name bytes (and_left _ _ f)
-
-pub foreign : (blocks name : ℕ) (bytes : List ℕ) (h : Header) → h ≡ header_at bytes → belongs h name blocks bytes ≡ false → IsDamaged blocks name bytes
-foreign blocks name bytes h is b = damaged blocks name bytes (and_right _ _ (ap (λ x. belongs x name blocks bytes) (sym is) ∙ b))
-
 -- a checkpoint's tally is the disk's size
 tally_is : (blocks name : ℕ) (o : Object) → valid blocks name o ≡ true → (header_of o).kind ≡ 3 → (header_of o).tally ≡ blocks
 tally_is blocks name (carrier Data number first es payload) good kind = absurd (omega arith)
 tally_is blocks name (carrier Clean number first es payload) good kind = absurd (omega arith)
 tally_is blocks name (checkpoint number first size table) good kind = (checks blocks name number first size table good).whole
 
-pub no_header : (name : ℕ) (bytes : List ℕ) → length bytes < 24 → NoCheckpoint name bytes
-no_header name bytes short blocks o good kind is =
+-- what holds anyway holds of an error
+pub if_err : {T E X : Type 0} (r : Result T E) → X → IfErr r (λ _. X)
+if_err (Ok v) x = tt
+if_err (Err e) x = x
+
+-- bytes too few for a header are no object
+pub too_short : (bytes : List ℕ) → length bytes < 24 → (blocks name : ℕ) → IsDamaged blocks name bytes
+too_short bytes short blocks name o good is =
     let p = and_parts (framed blocks bytes) _ (sound_written blocks name o bytes good is) in
     let room = leb-true 24 (length bytes) (and_parts (disk_size blocks) _ p.0).1 in
     omega arith
 
+-- bytes whose header has the number of no kind are no object
+pub no_kind : (bytes : List ℕ) (h : Header) → h ≡ header_at bytes → ((kind : Kind) → kind_number kind ≡ h.kind → ⊥) → (blocks name : ℕ) → IsDamaged blocks name bytes
+no_kind bytes h is none blocks name o good w = by_object o (ap (λ x. x.kind) (is ∙ header_found blocks name o bytes good w))
+  where
+    by_object : (o : Object) → h.kind ≡ (header_of o).kind → ⊥
+    by_object (carrier c number first es payload) same = none (Carrying c) (sym same)
+    by_object (checkpoint number first blocks table) same = none Checkpoint (sym same)
+
 pub other_kind : (name : ℕ) (bytes : List ℕ) (h : Header) → h ≡ header_at bytes → (h.kind ≡ 3 → ⊥) → NoCheckpoint name bytes
 other_kind name bytes h is other blocks o good kind w = other (ap (λ x. x.kind) (is ∙ header_found blocks name o bytes good w) ∙ kind)
+
+-- the kinds that carry blocks are not the third
+pub not_third : (c : Carrier) (n : ℕ) → carrier_kind c ≡ n → n ≡ 3 → ⊥
+not_third Data n is three = omega arith
+not_third Clean n is three = omega arith
 
 pub damaged_checkpoint : (name : ℕ) (bytes : List ℕ) (h : Header) → h ≡ header_at bytes → IsDamaged h.tally name bytes → NoCheckpoint name bytes
 damaged_checkpoint name bytes h is bad blocks o good kind w =
     let t : h.tally ≡ blocks = ap (λ x. x.tally) (is ∙ header_found blocks name o bytes good w) ∙ tally_is blocks name o good kind in
     bad o (ap (λ n. valid n name o) t ∙ good) w
-
--- what reading on a disk of the tally's size tells of a checkpoint
-pub as_checkpoint : (name : ℕ) (bytes : List ℕ) (h : Header) (r : Result Header Damaged) → h ≡ header_at bytes → h.kind ≡ 3 → Read h.tally name bytes r → ReadCheckpoint name bytes r
-as_checkpoint name bytes h (Ok x) is kind u =
-    let same : x ≡ h = sym u.says ∙ sym (header_found h.tally name u.object bytes u.good u.is) ∙ sym is in
-    let back = sym same in
-    (ap (λ y. y.kind) same ∙ kind, subst (λ y. Undamaged y.tally name bytes x) back u)
-as_checkpoint name bytes h (Err e) is kind bad = damaged_checkpoint name bytes h is bad

@@ -1,22 +1,23 @@
 -- What applying an undamaged object needs and gives. Assumes nothing.
-use Rattle.std.proofs.Common.{◌≡◌, ℕ, ◌+◌, ◌-◌, ◌*◌, ◌^◌, ◌<◌, ◌≤◌, Bool, true, false, cond, ◌&&◌, eqb, ltb, leb, List, [], ◌∷◌, length, sym, refl, ap, ◌∙◌, subst, ⊎_elim, arith}
-use Rattle.std.proofs.lemmas.Bool.{and_parts, and_from, leb-true, eqb-true, le-leb, lt-ltb, ne_eqb, both_ways, cases_lt}
+use Rattle.std.proofs.Common.{◌≡◌, ℕ, ◌+◌, ◌-◌, ◌*◌, ◌^◌, ◌<◌, ◌≤◌, true, ◌&&◌, eqb, ltb, leb, List, [], ◌∷◌, length, drop, sym, refl, ap, ◌∙◌, subst, arith}
+use Rattle.std.proofs.lemmas.Bool.{and_parts, and_from, leb-true, eqb-true, le-leb, lt-ltb}
 use Rattle.extents.specs.declared.extent.Extent.{Extent}
 use Rattle.extents.specs.declared.target.Place.{Place}
-use Rattle.extents.specs.declared.table.rows.Rows.{Rows}
+use Rattle.extents.specs.Mapped.{Mapped}
 use Rattle.extents.specs.Map.{end, target_at, is_table, all_in_range}
 use Rattle.extents.specs.Kinds.{place_advanced, place_same, place_fits}
-use Rattle.extents.specs.Rows.{table_of}
 use Rattle.objects.specs.declared.header.Header.{Header}
 use Rattle.objects.specs.declared.entry.Entry.{Entry}
 use Rattle.objects.specs.declared.entry.Carrier.{Carrier}
 use Rattle.objects.specs.declared.entry.Carrier.TheVariants.{Data, Clean}
 use Rattle.objects.specs.Layout.{carrier_kind, total}
 use Rattle.objects.specs.Rules.{every, disk_size, entry_fits, extent_fits, most_blocks}
-use Rattle.objects.specs.Seen.{field, header_at, entry_at, extent_at, listed, carrier_at, checkpoint_at, carrier_sound, no_extent, checkpoint_sound, kind_sound, framed, belongs, sound}
-use Rattle.objects.specs.Applying.{laid, places, counted, Takes, Overflows}
+use Rattle.objects.specs.Seen.{field, header_at, entry_at, extent_at, listed, carrier_at, checkpoint_at, carrier_sound, no_extent, checkpoint_sound, kind_sound, framed, sound, entries_said, extents_said}
+use Rattle.objects.specs.Applying.{laid, places, recorded, counted, Takes, Overflows}
 use Rattle.objects.proofs.Widths.{Bytes}
 use Rattle.objects.proofs.Lists.{length_listed}
+use Rattle.std.specs.Simd.{first_chunks}
+use Rattle.objects.proofs.Parts.{entries_are, extents_are, length_chunks}
 use Rattle.objects.proofs.Tables.{table_from_chain}
 use Rattle.objects.proofs.Sound.{Headed, carrier_good, checkpoint_good}
 
@@ -102,25 +103,16 @@ kind_part blocks name bytes s =
     let p2 = and_parts (eqb (field 4 4 bytes) name) _ p0.1 in
     (and_parts (leb 1 name) _ p2.1).1
 
-pub data_sound : (blocks name : ℕ) (bytes : List ℕ) → field 4 0 bytes ≡ 1 → sound blocks name bytes ≡ true → carrier_sound Data blocks bytes ≡ true
-data_sound blocks name bytes kind s = ap (λ k. kind_sound k name blocks bytes) (sym kind) ∙ kind_part blocks name bytes s
+-- an object of a kind that carries blocks is sound for it
+carrier_is_sound : (c : Carrier) (blocks name : ℕ) (bytes : List ℕ) → field 4 0 bytes ≡ carrier_kind c → sound blocks name bytes ≡ true → carrier_sound c blocks bytes ≡ true
+carrier_is_sound Data blocks name bytes kind s = ap (λ k. kind_sound k name blocks bytes) (sym kind) ∙ kind_part blocks name bytes s
+carrier_is_sound Clean blocks name bytes kind s = ap (λ k. kind_sound k name blocks bytes) (sym kind) ∙ kind_part blocks name bytes s
 
-pub clean_sound : (blocks name : ℕ) (bytes : List ℕ) → field 4 0 bytes ≡ 2 → sound blocks name bytes ≡ true → carrier_sound Clean blocks bytes ≡ true
-clean_sound blocks name bytes kind s = ap (λ k. kind_sound k name blocks bytes) (sym kind) ∙ kind_part blocks name bytes s
-
-pub third_kind : (blocks name : ℕ) (bytes : List ℕ) → (field 4 0 bytes ≡ 1 → ⊥) → (field 4 0 bytes ≡ 2 → ⊥) → sound blocks name bytes ≡ true → (field 4 0 bytes ≡ 3) × (checkpoint_sound name blocks bytes ≡ true)
-third_kind blocks name bytes one two s =
-    let a : eqb (field 4 0 bytes) 1 ≡ false = ne_eqb (field 4 0 bytes) 1 one in
-    let b : eqb (field 4 0 bytes) 2 ≡ false = ne_eqb (field 4 0 bytes) 2 two in
-    let rest : cond (eqb (field 4 0 bytes) 3) (checkpoint_sound name blocks bytes) false ≡ true = simp (a, b) at (kind_part blocks name bytes s) in
-    last (eqb (field 4 0 bytes) 3) refl rest
-  where
-    last : (t : Bool) → eqb (field 4 0 bytes) 3 ≡ t → cond t (checkpoint_sound name blocks bytes) false ≡ true → (field 4 0 bytes ≡ 3) × (checkpoint_sound name blocks bytes ≡ true)
-    last true e h = (eqb-true (field 4 0 bytes) 3 e, h)
-    last false e h = absurd (both_ways false refl h)
+checkpoint_is_sound : (blocks name : ℕ) (bytes : List ℕ) → field 4 0 bytes ≡ 3 → sound blocks name bytes ≡ true → checkpoint_sound name blocks bytes ≡ true
+checkpoint_is_sound blocks name bytes kind s = ap (λ k. kind_sound k name blocks bytes) (sym kind) ∙ kind_part blocks name bytes s
 
 -- an object that carries blocks was applied
-pub carrier_taken : (c : Carrier) (name records count : ℕ) (bytes : List ℕ) (m w : Rows Place) → Headed m.blocks name bytes → field 4 0 bytes ≡ carrier_kind c → carrier_sound c m.blocks bytes ≡ true
+pub carrier_taken : (c : Carrier) (name records count : ℕ) (bytes : List ℕ) (m w : Mapped Place) → Headed m.blocks name bytes → field 4 0 bytes ≡ carrier_kind c → carrier_sound c m.blocks bytes ≡ true
     → count ≡ counted (carrier_at c bytes) records → w.blocks ≡ m.blocks
     → ((b : ℕ) → places w b ≡ laid (field 4 4 bytes) (field 4 16 bytes) 0 (listed (entry_at bytes) 8 (field 4 16 bytes) 24) (places m) b) → Takes name bytes records m count w
 unfolding carrier_good
@@ -137,8 +129,8 @@ carrier_taken c name records count bytes m w k kind s counts same over =
     }
 
 -- a checkpoint was applied
-pub checkpoint_taken : (name records : ℕ) (bytes : List ℕ) (m w : Rows Place) → Headed m.blocks name bytes → field 4 0 bytes ≡ 3 → checkpoint_sound name m.blocks bytes ≡ true
-    → w.blocks ≡ m.blocks → table_of w ≡ listed (extent_at bytes) 16 (field 4 16 bytes) 24 → Takes name bytes records m (field 8 8 bytes) w
+pub checkpoint_taken : (name records : ℕ) (bytes : List ℕ) (m w : Mapped Place) → Headed m.blocks name bytes → field 4 0 bytes ≡ 3 → checkpoint_sound name m.blocks bytes ≡ true
+    → w.blocks ≡ m.blocks → w.extents ≡ listed (extent_at bytes) 16 (field 4 16 bytes) 24 → Takes name bytes records m (field 8 8 bytes) w
 unfolding checkpoint_good
 checkpoint_taken name records bytes m w k kind s same table =
     let u = checkpoint_good m.blocks name bytes k kind s in
@@ -151,92 +143,75 @@ checkpoint_taken name records bytes m w k kind s same table =
       places_are = λ b. ap (λ xs. target_at place_advanced xs b) table;
     }
 
--- a data object whose blocks do not fit the count
-pub data_overflows : (name records : ℕ) (bytes : List ℕ) (m : Rows Place) → Headed m.blocks name bytes → field 4 0 bytes ≡ 1 → carrier_sound Data m.blocks bytes ≡ true
-    → 2 ^ 64 ≤ records + field 4 20 bytes → Overflows name bytes records m
+-- an object that carries blocks which do not fit the count
+carrier_overflows : (c : Carrier) (name records : ℕ) (bytes : List ℕ) (m : Mapped Place) → Headed m.blocks name bytes → field 4 0 bytes ≡ carrier_kind c → carrier_sound c m.blocks bytes ≡ true
+    → 2 ^ 64 ≤ recorded c (field 4 20 bytes) records → Overflows name bytes records m
 unfolding carrier_good
-data_overflows name records bytes m k kind s past =
-    let u = carrier_good Data m.blocks name bytes k kind s in
-    let sum = (laying Data m.blocks bytes s).sum in
-    record { object = carrier_at Data bytes; good = u.good; is = u.is; past = omega arith }
+carrier_overflows c name records bytes m k kind s past =
+    let u = carrier_good c m.blocks name bytes k kind s in
+    let sum = (laying c m.blocks bytes s).sum in
+    record { object = carrier_at c bytes; good = u.good; is = u.is; past = subst (λ t. 2 ^ 64 ≤ recorded c t records) (sym sum) past }
 
--- the same, with the header that was read
+-- the same, with the header and the entries that were read
 
-pub record LayFacts (h : Header) (blocks : ℕ) (bytes : List ℕ) : Type 0 where
-  pub few : h.entries ≤ 32
-  pub room : 24 + 8 * h.entries ≤ length bytes
-  pub fit : every (entry_fits 32 blocks) (listed (entry_at bytes) 8 h.entries 24) ≡ true
-  pub sum : total (listed (entry_at bytes) 8 h.entries 24) ≤ 32
+-- what laying the entries asks of them
+pub record LayFacts (h : Header) (blocks : ℕ) (bytes : List ℕ) (parts : List (List ℕ)) : Type 0 where
+  pub few : length parts ≤ 32
+  pub fit : every (entry_fits 32 blocks) (entries_said parts) ≡ true
+  pub sum : total (entries_said parts) ≤ 32
 
-lay_facts : (c : Carrier) (h : Header) (blocks : ℕ) (bytes : List ℕ) → h ≡ header_at bytes → carrier_sound c blocks bytes ≡ true → LayFacts h blocks bytes
-lay_facts c h blocks bytes is s =
-    let l = laying c blocks bytes s in
-    subst (λ (x : Header). LayFacts x blocks bytes) (sym is) (record { few = l.few; room = l.room; fit = l.fit; sum = l.most })
+pub lay_facts : (c : Carrier) (h : Header) (blocks : ℕ) (bytes : List ℕ) (parts : List (List ℕ)) → h ≡ header_at bytes → h.kind ≡ carrier_kind c → sound blocks h.number bytes ≡ true
+    → parts ≡ first_chunks 8 h.entries (drop 24 bytes) → LayFacts h blocks bytes parts
+lay_facts c h blocks bytes parts is kind s are =
+    let l = laying c blocks bytes (carrier_is_sound c blocks h.number bytes (ap (λ x. x.kind) (sym is) ∙ kind) s) in
+    let n : h.entries ≡ field 4 16 bytes = ap (λ x. x.entries) is in
+    let chunks : parts ≡ first_chunks 8 (field 4 16 bytes) (drop 24 bytes) = are ∙ ap (λ k. first_chunks 8 k (drop 24 bytes)) n in
+    let es : entries_said parts ≡ listed (entry_at bytes) 8 (field 4 16 bytes) 24 = ap entries_said chunks ∙ entries_are (field 4 16 bytes) bytes in
+    let count : length parts ≡ field 4 16 bytes = ap length chunks ∙ length_chunks 8 (field 4 16 bytes) (drop 24 bytes) in
+    record { few = omega (arith, l.few); fit = ap (every (entry_fits 32 blocks)) es ∙ l.fit; sum = omega (arith, ap total es, l.most) }
 
-pub data_facts : (h : Header) (blocks : ℕ) (bytes : List ℕ) → h ≡ header_at bytes → h.kind ≡ 1 → sound blocks h.number bytes ≡ true → LayFacts h blocks bytes
-data_facts h blocks bytes is kind s = lay_facts Data h blocks bytes is (data_sound blocks h.number bytes (ap (λ x. x.kind) (sym is) ∙ kind) s)
-
-pub clean_facts : (h : Header) (blocks : ℕ) (bytes : List ℕ) → h ≡ header_at bytes → h.kind ≡ 2 → sound blocks h.number bytes ≡ true → LayFacts h blocks bytes
-clean_facts h blocks bytes is kind s = lay_facts Clean h blocks bytes is (clean_sound blocks h.number bytes (ap (λ x. x.kind) (sym is) ∙ kind) s)
-
-pub record SetFacts (h : Header) (blocks : ℕ) (bytes : List ℕ) : Type 0 where
-  pub few : h.entries ≤ 1024
-  pub room : 24 + 16 * h.entries ≤ length bytes
-  pub tabled : is_table place_advanced place_same (listed (extent_at bytes) 16 h.entries 24) ≡ true
-  pub ranged : all_in_range place_advanced place_fits blocks (listed (extent_at bytes) 16 h.entries 24) ≡ true
-
-pub set_facts : (h : Header) (blocks : ℕ) (bytes : List ℕ) → h ≡ header_at bytes → (h.kind ≡ 1 → ⊥) → (h.kind ≡ 2 → ⊥) → sound blocks h.number bytes ≡ true → SetFacts h blocks bytes
-set_facts h blocks bytes is one two s =
-    let kind = ap (λ x. x.kind) is in
-    let k = third_kind blocks h.number bytes (λ e. one (kind ∙ e)) (λ e. two (kind ∙ e)) s in
-    let t = setting h.number blocks bytes k.1 in
-    subst (λ (x : Header). SetFacts x blocks bytes) (sym is) (record { few = t.few; room = t.room; tabled = t.tabled; ranged = t.range })
-
-pub data_taken : (h : Header) (records count : ℕ) (bytes : List ℕ) (m w : Rows Place) → Bytes bytes → h.number < 2 ^ 32 → h ≡ header_at bytes → h.kind ≡ 1 → sound m.blocks h.number bytes ≡ true
-    → count ≡ records + h.tally → w.blocks ≡ m.blocks → ((b : ℕ) → places w b ≡ laid h.number h.entries 0 (listed (entry_at bytes) 8 h.entries 24) (places m) b) → Takes h.number bytes records m count w
-data_taken h records count bytes m w each high is =
-    subst (λ (x : Header). x.number < 2 ^ 32 → x.kind ≡ 1 → sound m.blocks x.number bytes ≡ true → count ≡ records + x.tally → w.blocks ≡ m.blocks
+pub taken : (c : Carrier) (h : Header) (records count : ℕ) (bytes : List ℕ) (parts : List (List ℕ)) (m w : Mapped Place) → Bytes bytes → h.number < 2 ^ 32 → h ≡ header_at bytes → h.kind ≡ carrier_kind c
+    → sound m.blocks h.number bytes ≡ true → parts ≡ first_chunks 8 h.entries (drop 24 bytes) → count ≡ recorded c h.tally records → w.blocks ≡ m.blocks
+    → ((b : ℕ) → places w b ≡ laid h.number (length parts) 0 (entries_said parts) (places m) b) → Takes h.number bytes records m count w
+taken c h records count bytes parts m w each high is kind s are counts same over =
+    let es : entries_said parts ≡ listed (entry_at bytes) 8 h.entries 24 = ap entries_said are ∙ entries_are h.entries bytes in
+    let long : length parts ≡ h.entries = ap length are ∙ length_chunks 8 h.entries (drop 24 bytes) in
+    let laid_over : (b : ℕ) → places w b ≡ laid h.number h.entries 0 (listed (entry_at bytes) 8 h.entries 24) (places m) b =
+    λ b. over b ∙ ap (λ n. laid h.number n 0 (entries_said parts) (places m) b) long ∙ ap (λ l. laid h.number h.entries 0 l (places m) b) es in
+    subst (λ (x : Header). x.number < 2 ^ 32 → x.kind ≡ carrier_kind c → sound m.blocks x.number bytes ≡ true → count ≡ recorded c x.tally records
     → ((b : ℕ) → places w b ≡ laid x.number x.entries 0 (listed (entry_at bytes) 8 x.entries 24) (places m) b) → Takes x.number bytes records m count w)
     (sym is)
-    (λ high kind s counts same over.
-    let cs = data_sound m.blocks (field 4 4 bytes) bytes kind s in
-    carrier_taken Data (field 4 4 bytes) records count bytes m w (headed m.blocks (field 4 4 bytes) bytes each high s) kind cs (counts ∙ ap (λ n. records + n) (sym (laying Data m.blocks bytes cs).sum)) same over)
-    high
+    (λ high kind s counts over.
+    let cs = carrier_is_sound c m.blocks (field 4 4 bytes) bytes kind s in
+    carrier_taken c (field 4 4 bytes) records count bytes m w (headed m.blocks (field 4 4 bytes) bytes each high s) kind cs (counts ∙ ap (λ n. recorded c n records) (sym (laying c m.blocks bytes cs).sum)) same over)
+    high kind s counts laid_over
 
-pub clean_taken : (h : Header) (records : ℕ) (bytes : List ℕ) (m w : Rows Place) → Bytes bytes → h.number < 2 ^ 32 → h ≡ header_at bytes → h.kind ≡ 2 → sound m.blocks h.number bytes ≡ true
-    → w.blocks ≡ m.blocks → ((b : ℕ) → places w b ≡ laid h.number h.entries 0 (listed (entry_at bytes) 8 h.entries 24) (places m) b) → Takes h.number bytes records m records w
-clean_taken h records bytes m w each high is =
-    subst (λ (x : Header). x.number < 2 ^ 32 → x.kind ≡ 2 → sound m.blocks x.number bytes ≡ true → w.blocks ≡ m.blocks
-    → ((b : ℕ) → places w b ≡ laid x.number x.entries 0 (listed (entry_at bytes) 8 x.entries 24) (places m) b) → Takes x.number bytes records m records w)
+pub past : (c : Carrier) (h : Header) (records : ℕ) (bytes : List ℕ) (m : Mapped Place) → Bytes bytes → h.number < 2 ^ 32 → h ≡ header_at bytes → h.kind ≡ carrier_kind c
+    → sound m.blocks h.number bytes ≡ true → 2 ^ 64 ≤ recorded c h.tally records → Overflows h.number bytes records m
+past c h records bytes m each high is kind s far =
+    subst (λ (x : Header). x.number < 2 ^ 32 → x.kind ≡ carrier_kind c → sound m.blocks x.number bytes ≡ true → 2 ^ 64 ≤ recorded c x.tally records → Overflows x.number bytes records m)
     (sym is)
-    (λ high kind s same over.
-    carrier_taken Clean (field 4 4 bytes) records records bytes m w (headed m.blocks (field 4 4 bytes) bytes each high s) kind (clean_sound m.blocks (field 4 4 bytes) bytes kind s) refl same over)
-    high
+    (λ high kind s far. carrier_overflows c (field 4 4 bytes) records bytes m (headed m.blocks (field 4 4 bytes) bytes each high s) kind (carrier_is_sound c m.blocks (field 4 4 bytes) bytes kind s) far)
+    high kind s far
 
-pub table_taken : (h : Header) (records : ℕ) (bytes : List ℕ) (m w : Rows Place) → Bytes bytes → h.number < 2 ^ 32 → h ≡ header_at bytes → (h.kind ≡ 1 → ⊥) → (h.kind ≡ 2 → ⊥) → sound m.blocks h.number bytes ≡ true
-    → w.blocks ≡ m.blocks → table_of w ≡ listed (extent_at bytes) 16 h.entries 24 → Takes h.number bytes records m h.first w
-table_taken h records bytes m w each high is =
-    subst (λ (x : Header). x.number < 2 ^ 32 → (x.kind ≡ 1 → ⊥) → (x.kind ≡ 2 → ⊥) → sound m.blocks x.number bytes ≡ true → w.blocks ≡ m.blocks
-    → table_of w ≡ listed (extent_at bytes) 16 x.entries 24 → Takes x.number bytes records m x.first w)
+-- what setting the table asks of it
+pub record SetFacts (h : Header) (blocks : ℕ) (bytes : List ℕ) (parts : List (List ℕ)) : Type 0 where
+  pub tabled : is_table place_advanced place_same (extents_said parts) ≡ true
+  pub ranged : all_in_range place_advanced place_fits blocks (extents_said parts) ≡ true
+
+pub set_facts : (h : Header) (blocks : ℕ) (bytes : List ℕ) (parts : List (List ℕ)) → h ≡ header_at bytes → h.kind ≡ 3 → sound blocks h.number bytes ≡ true
+    → parts ≡ first_chunks 16 h.entries (drop 24 bytes) → SetFacts h blocks bytes parts
+set_facts h blocks bytes parts is kind s are =
+    let t = setting h.number blocks bytes (checkpoint_is_sound blocks h.number bytes (ap (λ x. x.kind) (sym is) ∙ kind) s) in
+    let n : h.entries ≡ field 4 16 bytes = ap (λ x. x.entries) is in
+    let xs : extents_said parts ≡ listed (extent_at bytes) 16 (field 4 16 bytes) 24 = ap extents_said are ∙ extents_are h.entries bytes ∙ ap (λ k. listed (extent_at bytes) 16 k 24) n in
+    record { tabled = ap (is_table place_advanced place_same) xs ∙ t.tabled; ranged = ap (all_in_range place_advanced place_fits blocks) xs ∙ t.range }
+
+pub table_taken : (h : Header) (records : ℕ) (bytes : List ℕ) (parts : List (List ℕ)) (m w : Mapped Place) → Bytes bytes → h.number < 2 ^ 32 → h ≡ header_at bytes → h.kind ≡ 3 → sound m.blocks h.number bytes ≡ true
+    → parts ≡ first_chunks 16 h.entries (drop 24 bytes) → w.blocks ≡ m.blocks → w.extents ≡ extents_said parts → Takes h.number bytes records m h.first w
+table_taken h records bytes parts m w each high is kind s are same table =
+    let xs : w.extents ≡ listed (extent_at bytes) 16 h.entries 24 = table ∙ ap extents_said are ∙ extents_are h.entries bytes in
+    subst (λ (x : Header). x.number < 2 ^ 32 → x.kind ≡ 3 → sound m.blocks x.number bytes ≡ true → w.extents ≡ listed (extent_at bytes) 16 x.entries 24 → Takes x.number bytes records m x.first w)
     (sym is)
-    (λ high one two s same table.
-    let k = third_kind m.blocks (field 4 4 bytes) bytes one two s in
-    checkpoint_taken (field 4 4 bytes) records bytes m w (headed m.blocks (field 4 4 bytes) bytes each high s) k.0 k.1 same table)
-    high
-
-pub data_past : (h : Header) (records : ℕ) (bytes : List ℕ) (m : Rows Place) → Bytes bytes → h.number < 2 ^ 32 → h ≡ header_at bytes → h.kind ≡ 1 → sound m.blocks h.number bytes ≡ true
-    → (records + h.tally < 2 ^ 64 → ⊥) → Overflows h.number bytes records m
-data_past h records bytes m each high is =
-    subst (λ (x : Header). x.number < 2 ^ 32 → x.kind ≡ 1 → sound m.blocks x.number bytes ≡ true → (records + x.tally < 2 ^ 64 → ⊥) → Overflows x.number bytes records m)
-    (sym is)
-    (λ high kind s past.
-    let far : 2 ^ 64 ≤ records + field 4 20 bytes = ⊎_elim (λ l. absurd (past l)) (λ l. l) (cases_lt (records + field 4 20 bytes) (2 ^ 64)) in
-    data_overflows (field 4 4 bytes) records bytes m (headed m.blocks (field 4 4 bytes) bytes each high s) kind (data_sound m.blocks (field 4 4 bytes) bytes kind s) far)
-    high
-
--- what the examination hands on
-pub sound_by : (blocks name : ℕ) (bytes : List ℕ) (h : Header) → h ≡ header_at bytes → framed blocks bytes ≡ true → belongs h name blocks bytes ≡ true → (h.number ≡ name) × (sound blocks h.number bytes ≡ true)
-sound_by blocks name bytes h is f b =
-    let n : h.number ≡ name = eqb-true h.number name (and_parts (eqb h.number name) _ b).0 in
-    let whole : sound blocks name bytes ≡ true = and_from _ _ f (ap (λ x. belongs x name blocks bytes) (sym is) ∙ b) in
-    (n, ap (λ k. sound blocks k bytes) n ∙ whole)
+    (λ high kind s table. checkpoint_taken (field 4 4 bytes) records bytes m w (headed m.blocks (field 4 4 bytes) bytes each high s) kind (checkpoint_is_sound m.blocks (field 4 4 bytes) bytes kind s) same table)
+    high kind s xs

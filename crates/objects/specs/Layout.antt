@@ -8,6 +8,8 @@ use Rattle.objects.specs.declared.header.Header.{Header}
 use Rattle.objects.specs.declared.entry.Entry.{Entry}
 use Rattle.objects.specs.declared.entry.Carrier.{Carrier}
 use Rattle.objects.specs.declared.entry.Carrier.TheVariants.{Data, Clean}
+use Rattle.objects.specs.declared.kind.Kind.{Kind}
+use Rattle.objects.specs.declared.kind.Kind.TheVariants.{Checkpoint, Carrier as Carrying}
 
 -- An object: one that carries blocks, with its number, first record, entries and payload, or a checkpoint, with its number, first record, count of blocks and table.
 pub data Object : Type 0 where
@@ -18,6 +20,11 @@ pub data Object : Type 0 where
 abbrev pub carrier_kind : Carrier → ℕ
 carrier_kind Data = 1
 carrier_kind Clean = 2
+
+-- The number of each kind of object.
+abbrev pub kind_number : Kind → ℕ
+kind_number (Carrying c) = carrier_kind c
+kind_number Checkpoint = 3
 
 -- How many blocks the entries have together.
 abbrev pub total : List Entry → ℕ

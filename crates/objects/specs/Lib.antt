@@ -5,3 +5,4 @@ pub mod Reading
 pub mod Building
 pub mod Applying
 pub mod Laws
+pub mod Faults

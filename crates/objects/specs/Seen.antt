@@ -1,5 +1,5 @@
 -- What bytes say, read as an object. Assumes nothing.
-use Rattle.std.specs.Prelude.{ℕ, zero, suc, ◌+◌, ◌*◌, ◌^◌, Bool, true, false, cond, not, ◌&&◌, List, [], ◌∷◌, length, take, drop, ◌==◌, nat_le, nat_lt}
+use Rattle.std.specs.Prelude.{ℕ, zero, suc, ◌+◌, ◌*◌, ◌^◌, Bool, true, false, cond, not, ◌&&◌, List, [], ◌∷◌, length, map, take, drop, ◌==◌, nat_le, nat_lt}
 use Rattle.endian.specs.Fields.{unle}
 use Rattle.extents.specs.declared.extent.Extent.{Extent}
 use Rattle.extents.specs.declared.target.Place.{Place}
@@ -33,6 +33,14 @@ abbrev pub listed : {X : Type 0} → (ℕ → X) → ℕ → ℕ → ℕ → Lis
 listed thing step zero at = []
 listed thing step (suc n) at = thing at ∷ listed thing step n (at + step)
 
+-- What the bytes of each entry say, one by one.
+abbrev pub entries_said : List (List ℕ) → List Entry
+entries_said parts = map (λ bytes. entry_at bytes 0) parts
+
+-- The same of the entries of a checkpoint.
+abbrev pub extents_said : List (List ℕ) → List (Extent Place)
+extents_said parts = map (λ bytes. extent_at bytes 0) parts
+
 -- The object that carries blocks, as bytes say it.
 abbrev pub carrier_at : Carrier → List ℕ → Object
 carrier_at c bytes = carrier c (field 4 4 bytes) (field 8 8 bytes) (listed (entry_at bytes) 8 (field 4 16 bytes) 24) (drop (24 + 8 * field 4 16 bytes) bytes)
@@ -53,10 +61,14 @@ object_at bytes = object_as (field 4 0 bytes) bytes
 abbrev pub entries_sum : ℕ → ℕ → ℕ → List Entry → Bool
 entries_sum most blocks tally es = every (entry_fits most blocks) es && total es == tally
 
+-- Whether the counts of an object that carries blocks are in range, and so many bytes are what they ask for.
+abbrev pub carrier_shape : Header → ℕ → Bool
+carrier_shape h size = nat_le 1 h.entries && (nat_le h.entries 32 && (nat_le h.tally 32 && size == 24 + 8 * h.entries + 512 * h.tally))
+
 -- Whether bytes keep the rules of an object that carries blocks.
 abbrev pub carrier_sound : Carrier → ℕ → List ℕ → Bool
 carrier_sound c blocks bytes =
-    (nat_le 1 (field 4 16 bytes) && (nat_le (field 4 16 bytes) 32 && (nat_le (field 4 20 bytes) 32 && length bytes == 24 + 8 * field 4 16 bytes + 512 * field 4 20 bytes)))
+    carrier_shape (header_at bytes) (length bytes)
     && entries_sum (most_blocks c) blocks (field 4 20 bytes) (listed (entry_at bytes) 8 (field 4 16 bytes) 24)
 
 -- An extent that no extent with an object of 1 or more goes on from.
@@ -72,10 +84,14 @@ abbrev pub chained : ℕ → ℕ → Extent Place → List (Extent Place) → Bo
 chained number blocks last [] = true
 chained number blocks last (x ∷ xs) = follows number blocks last x && chained number blocks x xs
 
+-- Whether the counts and the first record of a checkpoint are in range, and so many bytes are what they ask for.
+abbrev pub checkpoint_shape : Header → ℕ → ℕ → Bool
+checkpoint_shape h blocks size = h.tally == blocks && (nat_le h.entries 1024 && (nat_lt h.first (2 ^ 40) && size == 24 + 16 * h.entries))
+
 -- Whether bytes keep the rules of a checkpoint.
 abbrev pub checkpoint_sound : ℕ → ℕ → List ℕ → Bool
 checkpoint_sound name blocks bytes =
-    (field 4 20 bytes == blocks && (nat_le (field 4 16 bytes) 1024 && (nat_lt (field 8 8 bytes) (2 ^ 40) && length bytes == 24 + 16 * field 4 16 bytes)))
+    checkpoint_shape (header_at bytes) blocks (length bytes)
     && chained name blocks no_extent (listed (extent_at bytes) 16 (field 4 16 bytes) 24)
 
 -- Whether bytes keep the rules of the kind that they say.

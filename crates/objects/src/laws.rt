@@ -3,22 +3,16 @@ ghost use Rattle.objects.specs.Laws.{Building, OneMap};
 ghost use Rattle.objects.specs.Rules.{OneObject};
 
 // Two valid objects with the same bytes are equal.
-pub fn one_object() -> u8
+pub fn one_object()
     ensures { OneObject }
-{
-    0
-}
+{}
 
 // Each map has one writing as a checkpoint's table, and is the same map when it is read again.
-pub fn one_map() -> u8
+pub fn one_map()
     ensures { OneMap }
-{
-    0
-}
+{}
 
 // What is built is exactly the bytes of the object, which is valid.
-pub fn built_objects_stand() -> u8
+pub fn built_objects_stand()
     ensures { Building }
-{
-    0
-}
+{}

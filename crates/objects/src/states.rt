@@ -1,11 +1,5 @@
-// An object while it is built: the number that it has taken, and the three states that it goes through.
-ghost use borrow.Rule.Slice.PartMut.{put_mid};
-ghost use Rattle.std.specs.Prelude.{◌≡◌, ℕ, ◌≤◌, length};
-ghost use Rattle.objects.specs.Layout.{header_bytes};
-
+// An object while it is built: the number that it has taken, and the stages that it goes through.
 use crate::entry::Carrier;
-use crate::header::Header;
-use endian::{put_u32, put_u64};
 
 pub mod building;
 pub mod checkpoint;
@@ -22,8 +16,14 @@ pub struct NumberToken {
     number: u32,
 }
 
-// What an object that is built says so far: its kind, first record, entries and blocks, and the size of its disk.
-#[derive(Clone, Copy)]
+// An object that is being built: its number, and how far it is.
+pub struct Numbered<S> {
+    token: NumberToken,
+    stage: S,
+}
+
+// What an object says so far: its kind, first record, entries and blocks, and the size of its disk.
+#[derive(Clone, Copy, PartialEq, Eq, Debug)]
 pub struct Draft {
     carrier: Carrier,
     first: u64,
@@ -32,33 +32,24 @@ pub struct Draft {
     tally: u32,
 }
 
-// An object that is begun, to which entries are added.
-pub struct Begun {
-    token: NumberToken,
-    draft: Draft,
-}
-
-// An object whose entries are complete, to which payload blocks are added.
-pub struct Filled {
-    token: NumberToken,
+// What an object with all its entries says, and how many payload blocks it has so far.
+#[derive(Clone, Copy, PartialEq, Eq, Debug)]
+pub struct Filling {
     draft: Draft,
     added: u32,
 }
 
-// An object that is complete, with so many bytes in the buffer.
-pub struct Closed {
-    token: NumberToken,
+// How many bytes of the buffer a complete object has.
+#[derive(Clone, Copy, PartialEq, Eq, Debug)]
+pub struct Complete {
     length: usize,
 }
 
-// Puts a header at the front.
-fn put_header(buf: &mut [u8], header: Header)
-    requires { 24 ≤ length buf.old }
-    ensures { buf.new ≡ put_mid 0 24 buf.old (header_bytes header) }
-{
-    put_u32(buf, 0, header.kind);
-    put_u32(buf, 4, header.number);
-    put_u64(buf, 8, header.first);
-    put_u32(buf, 16, header.entries);
-    put_u32(buf, 20, header.tally);
-}
+// An object that is begun, to which entries are added.
+pub type Begun = Numbered<Draft>;
+
+// An object whose entries are complete, to which payload blocks are added.
+pub type Filled = Numbered<Filling>;
+
+// An object that is complete.
+pub type Closed = Numbered<Complete>;

@@ -1,180 +1,140 @@
 // Building an object that carries blocks, in a lent buffer.
-ghost use Rattle.std.specs.Prelude.{◌≡◌, ℕ, ◌+◌, ◌-◌, ◌*◌, ◌≤◌, Bool, cond, length, take};
-ghost use borrow.Rule.Slice.PartMut.{put_mid};
-ghost use Rattle.objects.specs.Building.{Adds, after_number, begun, Closes, draft_header, Enters, filling, may_add, may_close, may_enter, with_entry};
-ghost use Rattle.objects.specs.Layout.{entry_bytes, header_bytes};
+ghost use Rattle.std.specs.Prelude.{◌≡◌, ℕ, ◌+◌, ◌-◌, ◌*◌, ◌^◌, ◌<◌, Bool, take};
+ghost use Rattle.objects.specs.Building.{Adds, after_number, begun, Closes, draft_header, Enters, filling, may_add, may_close, may_enter};
+ghost use Rattle.objects.specs.Layout.{payload_offset};
 
-use super::{Begun, Closed, Draft, Filled, NumberToken, Numbers, put_header};
+use super::{Begun, Closed, Complete, Draft, Filled, Filling, NumberToken, Numbered, Numbers};
+use crate::MOST_CARRIED;
 use crate::entry::{Carrier, Entry};
 use crate::header::Header;
-use crate::{entry_fits, most_blocks};
-use endian::{put_part, put_u32};
+use crate::kind::Kind;
+use crate::part::Part;
+use crate::questions::payload_offset;
+use endian::put_part;
 
 impl NumberToken {
     // An object of the number with no entries yet, for a disk of so many blocks.
     pub fn begin(self, carrier: Carrier, first: u64, blocks: u32) -> Begun
         ensures { result ≡ begun self carrier first blocks }
     {
-        let draft = Draft {
-            carrier,
-            first,
-            blocks,
-            entries: 0,
-            tally: 0,
-        };
-        Begun { token: self, draft }
+        Numbered {
+            token: self,
+            stage: Draft {
+                carrier,
+                first,
+                blocks,
+                entries: 0,
+                tally: 0,
+            },
+        }
     }
 }
 
-// Whether an entry may be added, in a buffer of so many bytes.
-fn may_enter(draft: Draft, entry: Entry, buf: &[u8]) -> bool
-    ensures { result ≡ may_enter draft entry buf.now }
-{
-    if draft.entries >= 32 || !entry_fits(entry, most_blocks(draft.carrier), draft.blocks) {
-        return false;
+impl Draft {
+    // Where the payload block lies that has `added` blocks before it.
+    fn offset(self, added: u32) -> usize
+        ensures { result ≡ payload_offset self.entries added }
+    {
+        payload_offset(self.entries, added) as usize
     }
-    let room = 24 + 8 * draft.entries as usize + 8 <= buf.len();
-    draft.tally as u64 + entry.count as u64 <= 32 && room
-}
 
-// Puts an entry at its place.
-fn put_entry(buf: &mut [u8], at: usize, entry: Entry)
-    requires { at + 8 ≤ length buf.old }
-    ensures { buf.new ≡ put_mid at 8 buf.old (entry_bytes entry) }
-{
-    put_u32(buf, at, entry.address);
-    put_u32(buf, at + 4, entry.count);
+    // Whether an entry may be added.
+    fn may_enter(self, entry: Entry, buf: &[u8]) -> bool
+        ensures { result ≡ may_enter self entry buf.now }
+    {
+        if self.entries >= MOST_CARRIED || !entry.fits(self.carrier.most_blocks(), self.blocks) {
+            return false;
+        }
+        let room = 24 + 8 * self.entries as usize + 8 <= buf.len();
+        u64::from(self.tally) + u64::from(entry.count) <= u64::from(MOST_CARRIED) && room
+    }
+
+    // Whether a payload block may be added.
+    fn may_add(self, added: u32, block: &[u8], buf: &[u8]) -> bool
+        ensures { result ≡ may_add self added block.now buf.now }
+    {
+        added < self.tally && block.len() == 512 && self.offset(added) + 512 <= buf.len()
+    }
+
+    // Whether an object may be closed.
+    fn may_close(self, added: u32, buf: &[u8]) -> bool
+        ensures { result ≡ may_close self added buf.now }
+    {
+        self.entries >= 1 && added == self.tally && self.offset(self.tally) <= buf.len()
+    }
+
+    // The header of an object that is built.
+    fn header(self, number: u32) -> Header
+        ensures { result ≡ draft_header number self }
+    {
+        Header {
+            kind: u32::from(Kind::Carrier(self.carrier)),
+            number,
+            first: self.first,
+            entries: self.entries,
+            tally: self.tally,
+        }
+    }
 }
 
 impl Begun {
-    // Adds an entry after those before it, and answers whether it did; an entry that breaks a rule changes nothing.
-    pub fn add(self, buf: &mut [u8], entry: Entry) -> (Begun, bool)
+    // Adds an entry after those before it; an entry that breaks a rule changes nothing.
+    pub fn add(mut self, buf: &mut [u8], entry: Entry) -> Result<Begun, Begun>
         ensures { Enters self entry buf.old result buf.new }
     {
-        let Begun { token, mut draft } = self;
-        let good = may_enter(draft, entry, buf);
-        if good {
-            put_entry(buf, 24 + 8 * draft.entries as usize, entry);
-            draft.entries += 1;
-            draft.tally += entry.count;
+        if !self.stage.may_enter(entry, buf) {
+            return Err(self);
         }
-        (Begun { token, draft }, good)
+        put_part(buf, 24 + 8 * self.stage.entries as usize, &entry.to_bytes());
+        self.stage.entries += 1;
+        self.stage.tally += entry.count;
+        Ok(self)
     }
 
     // Ends the entries.
     pub fn fill(self) -> Filled
         ensures { result ≡ filling self }
     {
-        let Begun { token, draft } = self;
-        Filled {
+        let Numbered {
             token,
-            draft,
-            added: 0,
+            stage: draft,
+        } = self;
+        Numbered {
+            token,
+            stage: Filling { draft, added: 0 },
         }
-    }
-
-    // Gives the object up, and frees its number.
-    pub fn withdraw(self, numbers: &mut Numbers)
-        ensures { numbers.new ≡ after_number (self.token.number - 1) }
-    {
-        let Begun { token, draft: _ } = self;
-        token.withdraw(numbers)
-    }
-}
-
-// Whether a payload block may be added.
-fn may_add(draft: Draft, added: u32, block: &[u8], buf: &[u8]) -> bool
-    ensures { result ≡ may_add draft added block.now buf.now }
-{
-    let room = 24 + 8 * draft.entries as usize + 512 * added as usize + 512 <= buf.len();
-    added < draft.tally && block.len() == 512 && room
-}
-
-// Whether an object may be closed.
-fn may_close(draft: Draft, added: u32, buf: &[u8]) -> bool
-    ensures { result ≡ may_close draft added buf.now }
-{
-    let room = 24 + 8 * draft.entries as usize + 512 * draft.tally as usize <= buf.len();
-    draft.entries >= 1 && added == draft.tally && room
-}
-
-// The header of an object that is built.
-fn draft_header(number: u32, draft: Draft) -> Header
-    ensures { result ≡ draft_header number draft }
-{
-    let kind = match draft.carrier {
-        Carrier::Data => 1,
-        Carrier::Clean => 2,
-    };
-    Header {
-        kind,
-        number,
-        first: draft.first,
-        entries: draft.entries,
-        tally: draft.tally,
     }
 }
 
 impl Filled {
-    // Adds a payload block after those before it, and answers whether it did; one that breaks a rule changes nothing.
-    pub fn add(self, buf: &mut [u8], block: &[u8]) -> (Filled, bool)
+    // Adds a payload block after those before it; one that breaks a rule changes nothing.
+    pub fn add(mut self, buf: &mut [u8], block: &[u8]) -> Result<Filled, Filled>
         ensures { Adds self block.now buf.old result buf.new }
     {
-        let Filled {
-            token,
-            draft,
-            mut added,
-        } = self;
-        let good = may_add(draft, added, block, buf);
-        if good {
-            put_part(
-                buf,
-                24 + 8 * draft.entries as usize + 512 * added as usize,
-                block,
-            );
-            added += 1;
+        let Filling { draft, added } = self.stage;
+        if !draft.may_add(added, block, buf) {
+            return Err(self);
         }
-        (
-            Filled {
-                token,
-                draft,
-                added,
-            },
-            good,
-        )
+        put_part(buf, draft.offset(added), block);
+        self.stage.added += 1;
+        Ok(self)
     }
 
     // Writes the header, and so ends the object; one that lacks blocks is handed back.
     pub fn close(self, buf: &mut [u8]) -> Result<Closed, Filled>
         ensures { Closes self buf.old result buf.new }
     {
-        let Filled {
-            token,
-            draft,
-            added,
-        } = self;
-        if !may_close(draft, added, buf) {
-            return Err(Filled {
-                token,
-                draft,
-                added,
-            });
+        let Filling { draft, added } = self.stage;
+        if !draft.may_close(added, buf) {
+            return Err(self);
         }
-        put_header(buf, draft_header(token.number, draft));
-        let length = 24 + 8 * draft.entries as usize + 512 * draft.tally as usize;
-        Ok(Closed { token, length })
-    }
-
-    // Gives the object up, and frees its number.
-    pub fn withdraw(self, numbers: &mut Numbers)
-        ensures { numbers.new ≡ after_number (self.token.number - 1) }
-    {
-        let Filled {
+        let Numbered { token, stage: _ } = self;
+        put_part(buf, 0, &draft.header(token.number).to_bytes());
+        let length = draft.offset(draft.tally);
+        Ok(Numbered {
             token,
-            draft,
-            added: _,
-        } = self;
-        Begun { token, draft }.withdraw(numbers)
+            stage: Complete { length },
+        })
     }
 }
 
@@ -188,29 +148,27 @@ impl Closed {
 
     // The bytes to put: the object's, at the front of the buffer that it was built in.
     pub fn bytes<'a>(&self, buf: &'a [u8]) -> &'a [u8]
-        ensures { result.now ≡ take self.now.length buf.now }
+        ensures { result.now ≡ take self.now.stage.length buf.now }
     {
-        if self.length <= buf.len() {
-            &buf[0..self.length]
-        } else {
-            buf
-        }
+        buf.get(..self.stage.length).unwrap_or(buf)
     }
 
     // The number, spent: the object was put.
     pub fn put(self) -> u32
         ensures { result ≡ self.token.number }
     {
-        let Closed { token, length: _ } = self;
+        let Numbered { token, stage: _ } = self;
         let NumberToken { number } = token;
         number
     }
+}
 
+impl<S: Drop> Numbered<S> {
     // Gives the object up, and frees its number.
     pub fn withdraw(self, numbers: &mut Numbers)
         ensures { numbers.new ≡ after_number (self.token.number - 1) }
     {
-        let Closed { length: _, token } = self;
+        let Numbered { token, stage: _ } = self;
         token.withdraw(numbers)
     }
 }

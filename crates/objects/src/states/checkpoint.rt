@@ -1,48 +1,25 @@
 // Building a checkpoint from the table of a map of places, in a lent buffer.
 ghost use borrow.Rule.Slice.PartMut.{put_mid};
 ghost use Rattle.std.specs.Prelude.{◌≡◌, ℕ, ◌+◌, ◌*◌, ◌≤◌, length};
-ghost use Rattle.objects.specs.Building.{checkpoint_ready, Checkpoints};
-ghost use Rattle.objects.specs.Layout.{extent_bytes};
-ghost use Rattle.objects.specs.Seen.{chained, no_extent};
 ghost use Rattle.std.specs.List.{flat_map};
+ghost use Rattle.objects.specs.Building.{checkpoint_ready, Checkpoints};
+ghost use Rattle.objects.specs.Layout.{checkpoint, extent_bytes, header_of};
+ghost use Rattle.objects.specs.Seen.{chained, no_extent};
 
-use super::{Closed, NumberToken, put_header};
-use crate::follows;
+use super::{Closed, Complete, NumberToken, Numbered};
 use crate::header::Header;
-use endian::put_u32;
+use crate::kind::Kind;
+use crate::part::Part;
+use crate::{FIRST_LIMIT, MOST_BLOCKS, chained};
+use endian::put_part;
 use extents::{Extent, Place};
 
-// Whether the extents keep their rules, each after the one before.
-fn table_stands(table: &[Extent<Place>], number: u32, blocks: u32) -> bool
-    ensures { result ≡ chained number blocks no_extent table.now }
-{
-    let mut last = Extent {
-        first: 0,
-        length: 0,
-        target: Place {
-            object: 0,
-            offset: 0,
-        },
-    };
-    for i in 0..table.len() {
-        let extent = table[i];
-        if !follows(last, extent, number, blocks) {
-            return false;
-        }
-        last = extent;
-    }
-    true
-}
-
-// Puts an extent at its place.
-fn put_extent(buf: &mut [u8], at: usize, extent: Extent<Place>)
-    requires { at + 16 ≤ length buf.old }
-    ensures { buf.new ≡ put_mid at 16 buf.old (extent_bytes extent) }
-{
-    put_u32(buf, at, extent.first);
-    put_u32(buf, at + 4, extent.length);
-    put_u32(buf, at + 8, extent.target.object);
-    put_u32(buf, at + 12, extent.target.offset);
+// What a checkpoint is built of: its first record, the table of a map, and the size of the disk.
+#[derive(Clone, Copy)]
+struct Snapshot<'a> {
+    first: u64,
+    table: &'a [Extent<Place>],
+    blocks: u32,
 }
 
 // Puts the extents of a table one after another, after the header.
@@ -50,47 +27,66 @@ fn put_table(buf: &mut [u8], table: &[Extent<Place>])
     requires { 24 + 16 * length table.now ≤ length buf.old }
     ensures { buf.new ≡ put_mid 24 (16 * length table.now) buf.old (flat_map extent_bytes table.now) }
 {
-    for i in 0..table.len() {
-        put_extent(buf, 24 + 16 * i, table[i]);
+    for (i, extent) in table.iter().enumerate() {
+        put_part(buf, 24 + 16 * i, &extent.to_bytes());
     }
 }
 
-// Whether a checkpoint may be built.
-fn ready(number: u32, first: u64, table: &[Extent<Place>], blocks: u32, buf: &[u8]) -> bool
-    ensures { result ≡ checkpoint_ready number first blocks table.now buf.now }
-{
-    let size = blocks >= 1 && blocks <= 1024;
-    let small = number >= 1 && table.len() <= 1024 && first < 1099511627776;
-    if !size || !small || 24 + 16 * table.len() > buf.len() {
-        return false;
+impl Snapshot<'_> {
+    // Whether the extents keep their rules, each after the one before.
+    fn stands(&self, number: u32) -> bool
+        ensures { result ≡ chained number self.now.blocks no_extent self.now.table.now }
+    {
+        chained(self.table.iter().copied(), number, self.blocks)
     }
-    table_stands(table, number, blocks)
-}
 
-// The checkpoint of a table, in the buffer.
-fn built(
-    token: NumberToken,
-    buf: &mut [u8],
-    first: u64,
-    table: &[Extent<Place>],
-    blocks: u32,
-) -> Result<Closed, NumberToken>
-    ensures { Checkpoints token first blocks table.now buf.old result buf.new }
-{
-    if !ready(token.number, first, table, blocks, buf) {
-        return Err(token);
+    // How many bytes the checkpoint has.
+    fn size(&self) -> usize
+        ensures { result ≡ 24 + 16 * length self.now.table.now }
+    {
+        24 + 16 * self.table.len()
     }
-    let header = Header {
-        kind: 3,
-        number: token.number,
-        first,
-        entries: table.len() as u32,
-        tally: blocks,
-    };
-    put_header(buf, header);
-    put_table(buf, table);
-    let length = 24 + 16 * table.len();
-    Ok(Closed { token, length })
+
+    // Whether a checkpoint of the number may be built.
+    fn ready(&self, number: u32, buf: &[u8]) -> bool
+        ensures { result ≡ checkpoint_ready number self.now.first self.now.blocks self.now.table.now buf.now }
+    {
+        let disk = self.blocks >= 1 && self.blocks <= MOST_BLOCKS;
+        let few = self.table.len() <= MOST_BLOCKS as usize;
+        let small = number >= 1 && few && self.first < FIRST_LIMIT;
+        disk && small && self.size() <= buf.len() && self.stands(number)
+    }
+
+    // The header of the checkpoint.
+    fn header(&self, number: u32) -> Header
+        requires { length self.now.table.now ≤ 1024 }
+        ensures { result ≡ header_of (checkpoint number self.now.first self.now.blocks self.now.table.now) }
+    {
+        Header {
+            kind: u32::from(Kind::Checkpoint),
+            number,
+            first: self.first,
+            entries: self.table.len() as u32,
+            tally: self.blocks,
+        }
+    }
+
+    // The checkpoint, in the buffer.
+    fn built(&self, token: NumberToken, buf: &mut [u8]) -> Result<Closed, NumberToken>
+        ensures { Checkpoints token self.now.first self.now.blocks self.now.table.now buf.old result buf.new }
+    {
+        if !self.ready(token.number, buf) {
+            return Err(token);
+        }
+        put_part(buf, 0, &self.header(token.number).to_bytes());
+        put_table(buf, self.table);
+        Ok(Numbered {
+            token,
+            stage: Complete {
+                length: self.size(),
+            },
+        })
+    }
 }
 
 impl NumberToken {
@@ -104,6 +100,11 @@ impl NumberToken {
     ) -> Result<Closed, NumberToken>
         ensures { Checkpoints self first blocks table.now buf.old result buf.new }
     {
-        built(self, buf, first, table, blocks)
+        let snapshot = Snapshot {
+            first,
+            table,
+            blocks,
+        };
+        snapshot.built(self, buf)
     }
 }

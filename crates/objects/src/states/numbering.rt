@@ -16,19 +16,16 @@ impl Numbers {
     pub fn last(&self) -> u32
         ensures { result ≡ self.now.last }
     {
-        let last = self.last;
-        last
+        self.last
     }
 
     // The next number, unless none is left.
     pub fn take(&mut self) -> Option<NumberToken>
         ensures { (result, self.new) ≡ taken self.old }
     {
-        if self.last == 4294967295 {
-            return None;
-        }
-        self.last += 1;
-        Some(NumberToken { number: self.last })
+        let number = self.last.checked_add(1)?;
+        *self = Numbers::after(number);
+        Some(NumberToken { number })
     }
 }
 

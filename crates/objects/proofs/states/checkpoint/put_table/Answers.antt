@@ -1,11 +1,11 @@
-use Rattle.std.proofs.Common.{◌≡◌, ◌*◌, length, get_or, take, refl, ap, ◌∙◌, arith}
+use Rattle.std.proofs.Common.{◌≡◌, ◌+◌, ◌*◌, length, get_or, take, refl, ap, ◌∙◌, arith}
 use borrow.Rule.Slice.PartMut.{put_mid}
 use Rattle.std.specs.List.{flat_map}
 use Rattle.std.proofs.lemmas.List.{get_or_default, take_all}
 use Rattle.objects.specs.Layout.{extent_bytes}
 use Rattle.objects.specs.Seen.{no_extent}
 use Rattle.objects.proofs.Sound.{length_extent}
-use Rattle.objects.proofs.Puts.{put_thing}
+use Rattle.objects.proofs.Puts.{put_part_of, put_thing}
 use Rattle.objects.proofs.states.checkpoint.put_table.Goals as goal
 
 pub loop-i-preserved : goal.loop-i-preserved
@@ -13,7 +13,8 @@ loop-i-preserved c =
     let xs = c.args.table.now in
     let i = c.loop-i.i in
     let x = get_or xs i no_extent in
-    put_thing extent_bytes 16 24 length_extent xs i _ x c.args.buf.now _ _ c.loop-i-test.true (get_or_default xs i x no_extent c.loop-i-test.true) c.requires refl c.loop-i.invariant c.put_extent.ensures
+    let put = put_part_of (24 + 16 * i) 16 c.loop-i.buf c.to_bytes.result (extent_bytes x) c.put_part.new.buf c.put_part.ensures.put c.to_bytes.ensures (length_extent x) (omega arith) in
+    put_thing extent_bytes 16 24 length_extent xs i _ x c.args.buf.now _ _ c.loop-i-test.true (get_or_default xs i x no_extent c.loop-i-test.true) c.requires refl c.loop-i.invariant put
 
 pub returns : goal.returns
 returns c =
