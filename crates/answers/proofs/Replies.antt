@@ -1,10 +1,10 @@
 -- Answer lines. Assumes nothing.
-use Rattle.std.proofs.Common.{◌≡◌, ℕ, ◌+◌, ◌-◌, ◌^◌, ◌<◌, Bool, true, false, List, [], ◌∷◌, ◌++◌, map, length, get_or, take, drop, decimal, sym, refl, ap, ◌∙◌, arith}
+use Rattle.std.proofs.Common.{◌≡◌, ℕ, ◌+◌, ◌-◌, ◌^◌, ◌<◌, List, [], ◌∷◌, ◌++◌, map, length, get_or, take, drop, decimal, Ok, Err, sym, refl, ap, ◌∙◌, arith}
 use Rattle.std.proofs.lemmas.List.{take_more, take_all, map_push, append-nil, append_assoc}
 use Rattle.commands.specs.Grammar.{spaced}
 use Rattle.std.specs.List.{AllByRecursion}
 use Rattle.commands.specs.Numbers.{number_in}
-use Rattle.answers.specs.Answers.{items_text, verdict, OneAnswer}
+use Rattle.answers.specs.Answers.{Outcome, items_text, numbers, verdict, OneAnswer}
 use Rattle.commands.proofs.Figures.{Stops, some_same, number_back}
 use Rattle.commands.proofs.Listings.{spaced_end}
 
@@ -39,16 +39,27 @@ items_same (x ∷ xs) (y ∷ ys) p q e =
     let c = cancel_number x y (closed xs) (closed ys) p.0 q.0 (closed_stops xs) (closed_stops ys) (ap (drop 1) e) in
     ap (λ n. n ∷ xs) c.0 ∙ ap (λ l. y ∷ l) (items_same xs ys p.1 q.1 c.1)
 
-verdicts : (a b : Bool) (r s : List ℕ) → verdict a ++ r ≡ verdict b ++ s → (a ≡ b) × (r ≡ s)
-verdicts true true r s e = (refl, ap (drop 2) e)
-verdicts false false r s e = (refl, ap (drop 2) e)
-verdicts true false r s e = absurd (let z : ◌≡◌ {A = ℕ} 111 110 = ap (λ l. get_or l 0 0) e in omega arith)
-verdicts false true r s e = absurd (let z : ◌≡◌ {A = ℕ} 110 111 = ap (λ l. get_or l 0 0) e in omega arith)
+outcomes : (a b : Outcome) (r s : List ℕ) → numbers a ≡ numbers b → verdict a ++ r ≡ verdict b ++ s → (a ≡ b) × (r ≡ s)
+outcomes (Ok xs) (Ok ys) r s i e = (ap Ok i, ap (drop 2) e)
+outcomes (Err xs) (Err ys) r s i e = (ap Err i, ap (drop 2) e)
+outcomes (Ok xs) (Err ys) r s i e = absurd (let z : ◌≡◌ {A = ℕ} 111 110 = ap (λ l. get_or l 0 0) e in omega arith)
+outcomes (Err xs) (Ok ys) r s i e = absurd (let z : ◌≡◌ {A = ℕ} 110 111 = ap (λ l. get_or l 0 0) e in omega arith)
+
+-- the words have two letters
+after_word : (a b : Outcome) (r s : List ℕ) → verdict a ++ r ≡ verdict b ++ s → r ≡ s
+after_word (Ok xs) (Ok ys) r s e = ap (drop 2) e
+after_word (Ok xs) (Err ys) r s e = ap (drop 2) e
+after_word (Err xs) (Ok ys) r s e = ap (drop 2) e
+after_word (Err xs) (Err ys) r s e = ap (drop 2) e
 
 -- two different answers never have the same line
 pub one_answer : OneAnswer
 one_answer x y p q e =
     let a = cancel_number x.line y.line _ _ p.line q.line refl refl (ap (drop 1) e) in
-    let b = verdicts x.granted y.granted _ _ (ap (drop 1) a.1) in
-    let c = items_same x.items y.items p.items q.items (spaced_end (map decimal x.items) (41 ∷ []) ∙ b.1 ∙ sym (spaced_end (map decimal y.items) (41 ∷ []))) in
-    λ i. record { line = a.0 i; granted = b.0 i; items = c i }
+    let w = ap (drop 1) a.1 in
+    let xs = numbers x.outcome in
+    let ys = numbers y.outcome in
+    let rest = after_word x.outcome y.outcome _ _ w in
+    let i = items_same xs ys p.items q.items (spaced_end (map decimal xs) (41 ∷ []) ∙ rest ∙ sym (spaced_end (map decimal ys) (41 ∷ []))) in
+    let b = outcomes x.outcome y.outcome _ _ i w in
+    λ i. record { line = a.0 i; outcome = b.0 i }

@@ -2,7 +2,7 @@
 #![tactic(auto)]
 
 ghost use Rattle.std.specs.Prelude.{◌≡◌, IfOk, Some, string_bytes};
-ghost use Rattle.answers.specs.Answers.{numbers_text, answer_text, OneAnswer};
+ghost use Rattle.answers.specs.Answers.{verdict, numbers, outcome, numbers_text, answer_text, OneAnswer};
 
 use std::alloc::{AllocError, Global};
 use std::fmt;
@@ -26,12 +26,32 @@ impl fmt::Display for Numbers<'_> {
     }
 }
 
-// What a line is answered: whether its call was granted, and the numbers that go with it.
+// What a line is answered: the numbers that go with a call that was granted, or with its refusal.
 #[derive(Clone, Copy)]
 pub struct Answer<'a> {
     pub line: u64,
-    pub granted: bool,
-    pub items: &'a [u64],
+    pub outcome: Result<&'a [u64], &'a [u64]>,
+}
+
+impl<'a> Answer<'a> {
+    // The word: ok where the call was granted, no where it was refused.
+    fn word(&self) -> &'static str
+        ensures { result.now ≡ verdict (outcome self.now) }
+    {
+        match self.outcome {
+            Ok(_) => "ok",
+            Err(_) => "no",
+        }
+    }
+
+    // The numbers of the answer, or of the refusal.
+    fn numbers(&self) -> &'a [u64]
+        ensures { result.now ≡ numbers (outcome self.now) }
+    {
+        match self.outcome {
+            Ok(items) | Err(items) => items,
+        }
+    }
 }
 
 impl fmt::Display for Answer<'_> {
@@ -39,12 +59,11 @@ impl fmt::Display for Answer<'_> {
 
     fn fmt<W: fmt::Write>(&self, f: &mut fmt::Formatter<W>) -> fmt::Result {
         let line = self.line;
-        let rest = Numbers { items: self.items };
-        if self.granted {
-            write!(f, "({line} ok{rest})")
-        } else {
-            write!(f, "({line} no{rest})")
-        }
+        let word = self.word();
+        let rest = Numbers {
+            items: self.numbers(),
+        };
+        write!(f, "({line} {word}{rest})")
     }
 }
 
@@ -56,8 +75,6 @@ pub fn answer_line(heap: Global, answer: &Answer) -> Result<String, AllocError>
 }
 
 // Two different answers never have the same line.
-pub fn one_answer() -> u8
+pub fn one_answer()
     ensures { OneAnswer }
-{
-    0
-}
+{}

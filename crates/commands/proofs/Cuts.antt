@@ -1,14 +1,18 @@
 -- The step that cuts off a token finds the part that the line begins with. Assumes nothing.
-use Rattle.std.proofs.Common.{◌≡◌, ℕ, suc, ◌+◌, ◌-◌, ◌^◌, ◌<◌, ◌≤◌, Bool, true, false, cond, eqb, leb, List, [], ◌∷◌, ◌++◌, map, length, get_or, take, drop, IfNone, Some, None, decimal, Option, sym, refl, ap, ◌∙◌, subst, append_assoc, arith}
+use Rattle.std.proofs.Common.{◌≡◌, ℕ, suc, ◌+◌, ◌-◌, ◌^◌, ◌<◌, ◌≤◌, Bool, true, false, cond, eqb, leb, List, [], ◌∷◌, ◌++◌, map, length, get_or, take, drop, IfNone, Some, None, decimal, Option, sym, refl, ap, ◌∙◌, subst, append_assoc, arith, rules}
+use Rattle.std.specs.Bool.{⊤}
 use Rattle.std.specs.Option.{option_map}
+use Rattle.std.specs.Iterator.{MakesProgress, at_most}
 use Rattle.commands.specs.declared.token.Token.{Token}
-use Rattle.std.proofs.lemmas.List.{take_at, drop_at, take-append-drop, take_rest, drop-drop}
+use Rattle.commands.specs.declared.token.Lexer.{Lexer}
+use Rattle.std.proofs.lemmas.Fmt.{decimal_nonempty}
+use Rattle.std.proofs.lemmas.List.{take_at, drop_at, take-append-drop, length-append}
 use Rattle.std.proofs.lemmas.Bool.{and_parts, and_from, and_left, and_right, eqb-true, ne_eqb, leb-true, lt-leb}
 use Rattle.commands.specs.Numbers.{digit, number_in}
 use Rattle.commands.specs.Grammar.{spaced, listed, bytes_only, letter, letters, Part, opening, closing, gap, word, number, bytes, spelt, Fit, Ends, Begins}
 use Rattle.commands.specs.Elements.{list_in}
 use Rattle.commands.specs.Tokens.{run, cut, cut_opened, part, Taken}
-use Rattle.commands.proofs.Figures.{digit_range, number_is, number_back, none_some, some_same}
+use Rattle.commands.proofs.Figures.{digit_range, number_is, number_back, some_same}
 use Rattle.commands.proofs.Listings.{decimal_first, head_rest, listed_end, list_is, list_back, bytes_first}
 
 letter_range : (c : ℕ) → letter c ≡ true → (97 ≤ c) × (c ≤ 122)
@@ -24,31 +28,31 @@ no_digit c h = and_right (leb 48 c) (leb c 57) (lt-leb c 57 (omega arith))
 run_letters : (s : List ℕ) → letters (take (run s) s) ≡ true
 run_letters [] = refl
 run_letters (c ∷ cs) = go (letter c) refl (run_letters cs) where
-  go : (b : Bool) → letter c ≡ b → letters (take (run cs) cs) ≡ true → letters (take (cond b (run cs + 1) 0) (c ∷ cs)) ≡ true
-  go true e rec = let z : run cs + 1 ≡ suc (run cs) = omega arith in ap (λ k. letters (take k (c ∷ cs))) z ∙ and_from _ _ e rec
+  go : (b : Bool) → letter c ≡ b → letters (take (run cs) cs) ≡ true → letters (take (cond b (1 + run cs) 0) (c ∷ cs)) ≡ true
+  go true e rec = let z : 1 + run cs ≡ suc (run cs) = omega arith in ap (λ k. letters (take k (c ∷ cs))) z ∙ and_from _ _ e rec
   go false e rec = refl
 
 run_ends : (s : List ℕ) → letter (get_or (drop (run s) s) 0 0) ≡ false
 run_ends [] = refl
 run_ends (c ∷ cs) = go (letter c) refl (run_ends cs) where
-  go : (b : Bool) → letter c ≡ b → letter (get_or (drop (run cs) cs) 0 0) ≡ false → letter (get_or (drop (cond b (run cs + 1) 0) (c ∷ cs)) 0 0) ≡ false
-  go true e rec = let z : run cs + 1 ≡ suc (run cs) = omega arith in ap (λ k. letter (get_or (drop k (c ∷ cs)) 0 0)) z ∙ rec
+  go : (b : Bool) → letter c ≡ b → letter (get_or (drop (run cs) cs) 0 0) ≡ false → letter (get_or (drop (cond b (1 + run cs) 0) (c ∷ cs)) 0 0) ≡ false
+  go true e rec = let z : 1 + run cs ≡ suc (run cs) = omega arith in ap (λ k. letter (get_or (drop k (c ∷ cs)) 0 0)) z ∙ rec
   go false e rec = e
 
 run_some : (s : List ℕ) → letter (get_or s 0 0) ≡ true → 0 < length (take (run s) s)
-run_some [] e = absurd (let z : ◌≡◌ {A = ℕ} 0 1 = cc in omega arith)
+run_some [] e = cc
 run_some (c ∷ cs) e = go (letter c) refl where
-  go : (b : Bool) → letter c ≡ b → 0 < length (take (cond b (run cs + 1) 0) (c ∷ cs))
-  go true f = let z : run cs + 1 ≡ suc (run cs) = omega arith in subst (λ k. 0 < length (take k (c ∷ cs))) (sym z) (omega arith)
-  go false f = absurd (let z : ◌≡◌ {A = ℕ} 0 1 = cc in omega arith)
+  go : (b : Bool) → letter c ≡ b → 0 < length (take (cond b (1 + run cs) 0) (c ∷ cs))
+  go true f = let z : 1 + run cs ≡ suc (run cs) = omega arith in subst (λ k. 0 < length (take k (c ∷ cs))) (sym z) (omega arith)
+  go false f = cc
 
 run_back : (w r : List ℕ) → letters w ≡ true → letter (get_or r 0 0) ≡ false → run (w ++ r) ≡ length w
 run_back [] [] e f = refl
-run_back [] (c ∷ cs) e f = ap (λ b. cond b (run cs + 1) 0) f
+run_back [] (c ∷ cs) e f = ap (λ b. cond b (1 + run cs) 0) f
 run_back (c ∷ cs) r e f =
     let p = and_parts (letter c) (letters cs) e in
     let rec = run_back cs r p.1 f in
-    ap (λ b. cond b (run (cs ++ r) + 1) 0) p.0 ∙ omega (arith, rec)
+    ap (λ b. cond b (1 + run (cs ++ r)) 0) p.0 ∙ omega (arith, rec)
 
 -- what is cut off is what the line begins with
 begins_by : (line : List ℕ) (q p : Part) (s rest : List ℕ) → Begins line q s → ◌≡◌ {A = Option (Part × List ℕ)} (Some (q, s)) (Some (p, rest)) → Begins line p rest
@@ -59,7 +63,7 @@ begins_by line q p s rest b e =
 opened_is : (s : List ℕ) (p : Part) (rest : List ℕ) → cut_opened s ≡ Some (p, rest) → Begins (40 ∷ s) p rest
 opened_is s p rest e = go (letter (get_or s 0 0)) refl e where
   many : (o : Option (List ℕ × List ℕ)) → list_in s ≡ o → option_map {U = Part × List ℕ} (λ x. (bytes x.0, x.1)) o ≡ Some (p, rest) → Begins (40 ∷ s) p rest
-  many None q f = none_some _ f
+  many None q f = cc
   many (Some x) q f =
       let w = list_is s x.0 x.1 q in
       begins_by (40 ∷ s) (bytes x.0) p x.1 rest (record {
@@ -75,10 +79,10 @@ opened_is s p rest e = go (letter (get_or s 0 0)) refl e where
 module _ (line : List ℕ) (p : Part) (rest : List ℕ) where
   worded : (b : Bool) → letter (get_or line 0 0) ≡ b → cond {A = Option (Part × List ℕ)} b (Some (word (take (run line) line), drop (run line) line)) None ≡ Some (p, rest) → Begins line p rest
   worded true h f = begins_by line (word (take (run line) line)) p (drop (run line) line) rest (record { is = sym (take-append-drop (run line) line); fit = (run_some line h, run_letters line); ends = run_ends line }) f
-  worded false h f = none_some _ f
+  worded false h f = cc
 
   counted : (o : Option (ℕ × List ℕ)) → number_in (2 ^ 32 - 1) line ≡ o → option_map {U = Part × List ℕ} (λ x. (number x.0, x.1)) o ≡ Some (p, rest) → Begins line p rest
-  counted None q f = none_some _ f
+  counted None q f = cc
   counted (Some x) q f =
       let w = number_is (2 ^ 32 - 1) (omega arith) (omega arith) line x.0 x.1 q in
       begins_by line (number x.0) p x.1 rest (record { is = w.is; fit = omega (arith, w.low); ends = w.stops }) f
@@ -159,19 +163,19 @@ spelt_cut (word (c ∷ cs)) r f e =
 pub cut_back : (line : List ℕ) (p : Part) (r : List ℕ) → Begins line p r → cut line ≡ Some (p, r)
 cut_back line p r b = ap cut b.is ∙ spelt_cut p r b.fit b.ends
 
-pub taken : (line : List ℕ) (o : Option Token) (rest : List ℕ) → option_map (λ t. (part t, rest)) o ≡ cut line → IfNone o (rest ≡ line) → Taken line (option_map part o) rest
-taken line (Some t) rest e h = cut_is line (part t) rest (sym e)
-taken line None rest e h = (h, λ p r b. none_some _ (e ∙ cut_back line p r b))
+-- a token that was cut off has at least one byte
+spelt_some : (p : Part) → Fit p → 0 < length (spelt p)
+spelt_some (word w) f = f.0
+spelt_some (number n) f = decimal_nonempty n (omega arith)
+spelt_some p f = omega arith
 
--- a line that begins with a bracket
-module _ (line : List ℕ) (e : get_or line 0 0 ≡ 40) where
-  at_bracket : cut line ≡ cut_opened (take (length line - 1) (drop 1 line))
-  at_bracket = ap cut (head_rest line 40 (omega arith) e) ∙ ap cut_opened (sym (take_rest line 1))
+pub taken : (s t : Lexer) (o : Option Token) → option_map (λ k. (part k, t.rest.now)) o ≡ cut s.rest.now → IfNone o (t.rest.now ≡ s.rest.now) → Taken s.rest.now (option_map part o) t.rest.now
+taken s t (Some k) e h = cut_is s.rest.now (part k) t.rest.now (sym e)
+taken s t None e h = (h, λ p r b. cc (e ∙ cut_back s.rest.now p r b))
 
-  pub bracket_none : None ≡ cut_opened (take (length line - 1) (drop 1 line)) → None ≡ cut line
-  bracket_none f = f ∙ sym at_bracket
-
-  pub bracket_some : (p : Part) (n : ℕ) → Some (p, drop n (take (length line - 1) (drop 1 line))) ≡ cut_opened (take (length line - 1) (drop 1 line)) → Some (p, drop (n + 1) line) ≡ cut line
-  bracket_some p n f =
-      let z : 1 + n ≡ n + 1 = omega arith in
-      sym (ap (λ l. Some (p, drop n l)) (take_rest line 1) ∙ ap (λ l. Some (p, l)) (drop-drop n 1 line) ∙ ap (λ k. Some (p, drop k line)) z) ∙ f ∙ sym at_bracket
+pub shorter : (s t : Lexer) (o : Option Token) → Taken s.rest.now (option_map part o) t.rest.now → MakesProgress (λ _. ⊤) (λ l. at_most (length l.rest.now)) s o t
+shorter s t (Some k) b =
+    let some = spelt_some (part k) b.fit in
+    let less : length t.rest.now < length s.rest.now = omega (arith, ap length b.is, length-append (spelt (part k)) t.rest.now) in
+    search rules
+shorter s t None b = search rules

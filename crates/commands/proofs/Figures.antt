@@ -40,9 +40,6 @@ Stops r = digit (get_or r 0 0) ≡ false
 pub some_same : {A B : Type 0} (a b : A) (x y : B) → ◌≡◌ {A = Option (A × B)} (Some (a, x)) (Some (b, y)) → (a ≡ b) × (x ≡ y)
 some_same {A} {B} a b x y e = let z : ◌≡◌ {A = A × B} (a, x) (b, y) = cc in (ap (λ p. p.0) z, ap (λ p. p.1) z)
 
-pub none_some : {A : Type 0} {P : Type 0} (x : A) → ◌≡◌ {A = Option A} None (Some x) → P
-none_some x e = absurd (let z : ◌≡◌ {A = ℕ} 0 1 = cc in omega arith)
-
 -- what was read of a number, with what is left, is the number that is read and what is left then
 pub record Number (most : ℕ) (s : List ℕ) (m : ℕ) (r : List ℕ) : Type 0 where
   pub is : s ≡ decimal m ++ r
@@ -70,10 +67,10 @@ module _ (most : ℕ) (small : most < 2 ^ 64) where
           low = done.low;
           stops = done.stops;
         }
-    room rec false l d z f = none_some _ f
+    room rec false l d z f = cc
 
     zeros : (10 * n + (c - 48) ≤ most → number_on most (10 * n + (c - 48)) cs ≡ Some (m, r) → Number most (decimal (10 * n + (c - 48)) ++ cs) m r) → (b : Bool) → eqb n 0 ≡ b → digit c ≡ true → cond b None (cond (leb (10 * n + (c - 48)) most) (number_on most (10 * n + (c - 48)) cs) None) ≡ Some (m, r) → Number most (decimal n ++ c ∷ cs) m r
-    zeros rec true z d f = none_some _ f
+    zeros rec true z d f = cc
     zeros rec false z d f = room rec (leb (10 * n + (c - 48)) most) refl d (eqb-false _ _ z) f
 
     digits : (10 * n + (c - 48) ≤ most → number_on most (10 * n + (c - 48)) cs ≡ Some (m, r) → Number most (decimal (10 * n + (c - 48)) ++ cs) m r) → (b : Bool) → digit c ≡ b → cond b (cond (eqb n 0) None (cond (leb (10 * n + (c - 48)) most) (number_on most (10 * n + (c - 48)) cs) None)) (Some (n, c ∷ cs)) ≡ Some (m, r) → Number most (decimal n ++ c ∷ cs) m r
@@ -82,10 +79,10 @@ module _ (most : ℕ) (small : most < 2 ^ 64) where
 
   -- what is read as a number is its writing
   pub number_is : 9 ≤ most → (s : List ℕ) (m : ℕ) (r : List ℕ) → number_in most s ≡ Some (m, r) → Number most s m r
-  number_is nine [] m r e = none_some _ e
+  number_is nine [] m r e = cc
   number_is nine (c ∷ cs) m r e = begins (digit c) refl e where
     begins : (b : Bool) → digit c ≡ b → cond b (number_on most (c - 48) cs) None ≡ Some (m, r) → Number most (c ∷ cs) m r
-    begins false d f = none_some _ f
+    begins false d f = cc
     begins true d f =
         let g = digit_range c d in
         let rec = number_on_is (c - 48) cs m r (omega (arith, g.1)) f in

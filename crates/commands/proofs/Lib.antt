@@ -1,7 +1,6 @@
-pub mod Numbered
 pub mod Figures
 pub mod Listings
 pub mod Turns
-pub mod Valued
+pub mod Named
 pub mod Cuts
 pub mod Readings

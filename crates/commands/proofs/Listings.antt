@@ -1,14 +1,14 @@
 -- Lists of bytes: reading one finds the list that is written. Assumes nothing.
 use Rattle.std.proofs.Common.{◌≡◌, ℕ, zero, suc, ◌+◌, ◌-◌, ◌*◌, ◌%◌, ◌^◌, ◌<◌, ◌≤◌, Bool, true, false, cond, eqb, ltb, List, [], ◌∷◌, ◌++◌, map, length, get_or, take, drop, Some, None, decimal, Option, sym, refl, ap, ◌∙◌, subst, append_assoc, arith}
-use Rattle.std.specs.Option.{option_map}
-use Rattle.std.proofs.lemmas.List.{length-append, length-drop, drop-drop, take_at}
+use Rattle.std.specs.Option.{option_map, option_and_then}
+use Rattle.std.proofs.lemmas.List.{length-append, take_at}
 use Rattle.std.proofs.lemmas.Fmt.{decimal_nonempty, decimal_by_steps}
 use Rattle.std.proofs.lemmas.Bool.{and_parts, and_from, eqb-true, ne_eqb, ltb-true, lt-ltb}
 use Rattle.commands.specs.Numbers.{digit, number_in}
 use Rattle.commands.specs.Grammar.{spaced, listed, bytes_only}
 use Rattle.commands.specs.Values.{values, values_on, Listing}
-use Rattle.commands.specs.Elements.{bind, elements, front, valued, list_in}
-use Rattle.commands.proofs.Figures.{digit_of, digit_range, reads_decimal, number_is, number_back, Number, none_some, some_same}
+use Rattle.commands.specs.Elements.{elements, front, valued, list_in}
+use Rattle.commands.proofs.Figures.{digit_of, digit_range, reads_decimal, number_is, number_back, Number, some_same}
 
 -- the first number is a byte, and so are the others
 pub bytes_first : (b : ℕ) (bs : List ℕ) → bytes_only (b ∷ bs) ≡ true → b ≤ 255
@@ -102,33 +102,29 @@ more_elements s b t r w h rec =
     }
 
 pub elements_is : (k : ℕ) (s r : List ℕ) → elements k s ≡ Some r → Elements s r
-elements_is zero s r e = none_some _ e
+elements_is zero s r e = cc
 elements_is (suc k) s r e = go (λ t f. elements_is k (drop 1 t) r f) (number_in 255 s) refl e where
   spaces : ((t : List ℕ) → elements k (drop 1 t) ≡ Some r → Elements (drop 1 t) r) → (b : ℕ) (t : List ℕ) → Number 255 s b t → (x : Bool) → eqb (get_or t 0 0) 32 ≡ x → cond x (elements k (drop 1 t)) None ≡ Some r → Elements s r
   spaces rec b t w true h f = more_elements s b t r w (eqb-true _ _ h) (rec t f)
-  spaces rec b t w false h f = none_some _ f
+  spaces rec b t w false h f = cc
 
   closes : ((t : List ℕ) → elements k (drop 1 t) ≡ Some r → Elements (drop 1 t) r) → (b : ℕ) (t : List ℕ) → Number 255 s b t → (x : Bool) → eqb (get_or t 0 0) 41 ≡ x → cond x (Some t) (cond (eqb (get_or t 0 0) 32) (elements k (drop 1 t)) None) ≡ Some r → Elements s r
   closes rec b t w true h f = one_element s b t r w (eqb-true _ _ h) f
   closes rec b t w false h f = spaces rec b t w (eqb (get_or t 0 0) 32) refl f
 
   go : ((t : List ℕ) → elements k (drop 1 t) ≡ Some r → Elements (drop 1 t) r) → (o : Option (ℕ × List ℕ)) → number_in 255 s ≡ o
-      → bind o (λ p. cond (eqb (get_or p.1 0 0) 41) (Some p.1) (cond (eqb (get_or p.1 0 0) 32) (elements k (drop 1 p.1)) None)) ≡ Some r → Elements s r
-  go rec None q f = none_some _ f
+      → option_and_then (λ p. cond (eqb (get_or p.1 0 0) 41) (Some p.1) (cond (eqb (get_or p.1 0 0) 32) (elements k (drop 1 p.1)) None)) o ≡ Some r → Elements s r
+  go rec None q f = cc
   go rec (Some p) q f = closes rec p.0 p.1 (number_is 255 (omega arith) (omega arith) s p.0 p.1 q) (eqb (get_or p.1 0 0) 41) refl f
 
 -- the elements that are written are read
 pub elements_back : (k b : ℕ) (bs r : List ℕ) → bytes_only (b ∷ bs) ≡ true → length bs < k → elements k (listed (b ∷ bs) (41 ∷ r)) ≡ Some (41 ∷ r)
 elements_back zero b bs r e h = absurd (omega arith)
 elements_back (suc k) b [] r e h =
-    ap (λ o. bind o (λ p. cond (eqb (get_or p.1 0 0) 41) (Some p.1) (cond (eqb (get_or p.1 0 0) 32) (elements k (drop 1 p.1)) None))) (number_back 255 (omega arith) b (41 ∷ r) (bytes_first b [] e) refl)
+    ap (λ o. option_and_then (λ p. cond (eqb (get_or p.1 0 0) 41) (Some p.1) (cond (eqb (get_or p.1 0 0) 32) (elements k (drop 1 p.1)) None)) o) (number_back 255 (omega arith) b (41 ∷ r) (bytes_first b [] e) refl)
 elements_back (suc k) b (d ∷ ds) r e h =
-    ap (λ o. bind o (λ p. cond (eqb (get_or p.1 0 0) 41) (Some p.1) (cond (eqb (get_or p.1 0 0) 32) (elements k (drop 1 p.1)) None))) (number_back 255 (omega arith) b (32 ∷ listed (d ∷ ds) (41 ∷ r)) (bytes_first b (d ∷ ds) e) refl)
+    ap (λ o. option_and_then (λ p. cond (eqb (get_or p.1 0 0) 41) (Some p.1) (cond (eqb (get_or p.1 0 0) 32) (elements k (drop 1 p.1)) None)) o) (number_back 255 (omega arith) b (32 ∷ listed (d ∷ ds) (41 ∷ r)) (bytes_first b (d ∷ ds) e) refl)
     ∙ elements_back k d ds r (bytes_rest b (d ∷ ds) e) (omega arith)
-
--- the text before a part of it
-pub front_drop : (s : List ℕ) (n : ℕ) → n ≤ length s → front s (drop n s) ≡ take n s
-front_drop s n h = let e : length s - length (drop n s) ≡ n = omega (arith, length-drop n s) in ap (λ k. take k s) e
 
 -- what a list that was read borrows is the text of its values
 module _ (s r : List ℕ) (e : elements (length s) s ≡ Some r) where
@@ -151,6 +147,10 @@ module _ (s r : List ℕ) (e : elements (length s) s ≡ Some r) where
   pub front_small : bytes_only (values (front s r)) ≡ true
   front_small = ap bytes_only front_values ∙ found.small
 
+  -- it ends inside the text
+  pub front_inside : length r ≤ length s
+  front_inside = omega (arith, ap length (found.is ∙ listed_end found.vs r), length-append (listed found.vs []) r)
+
   pub front_whole : s ≡ listed (values (front s r)) (41 ∷ drop 1 r)
   front_whole = found.is ∙ ap (λ l. listed l r) (sym front_values) ∙ ap (listed (values (front s r))) (head_rest r 41 (omega arith) found.closed)
 
@@ -158,7 +158,7 @@ module _ (s r : List ℕ) (e : elements (length s) s ≡ Some r) where
 pub list_is : (s vs r : List ℕ) → list_in s ≡ Some (vs, r) → (s ≡ listed vs (41 ∷ r)) × (bytes_only vs ≡ true)
 list_is s vs r e = empty (eqb (get_or s 0 0) 41) refl e where
   many : (o : Option (List ℕ)) → elements (length s) s ≡ o → option_map (valued s) o ≡ Some (vs, r) → (s ≡ listed vs (41 ∷ r)) × (bytes_only vs ≡ true)
-  many None q f = none_some _ f
+  many None q f = cc
   many (Some p) q f =
       let x = some_same _ vs _ r f in
       (front_whole s p q ∙ ap (λ l. listed l (41 ∷ drop 1 p)) x.0 ∙ ap (λ l. listed vs (41 ∷ l)) x.1, ap bytes_only (sym x.0) ∙ front_small s p q)
@@ -169,7 +169,7 @@ list_is s vs r e = empty (eqb (get_or s 0 0) 41) refl e where
       (head_rest s 41 (omega arith) (eqb-true _ _ h) ∙ ap (λ l. 41 ∷ l) x.1 ∙ ap (λ l. listed l (41 ∷ r)) x.0, ap bytes_only (sym x.0))
   empty false h f = many (elements (length s) s) refl f
 
-long_listed : (vs r : List ℕ) → bytes_only vs ≡ true → length vs ≤ length (listed vs r)
+pub long_listed : (vs r : List ℕ) → bytes_only vs ≡ true → length vs ≤ length (listed vs r)
 long_listed [] r e = omega arith
 long_listed (b ∷ bs) r e = spaces b bs (bytes_first b bs e) (bytes_rest b bs e) where
   spaces : (b : ℕ) (bs : List ℕ) → b ≤ 255 → bytes_only bs ≡ true → length (b ∷ bs) ≤ length (decimal b ++ spaced (map decimal bs) r)
@@ -199,17 +199,47 @@ list_back (b ∷ bs) r e =
         let long : length (listed vs end) - length end ≡ length (listed vs []) = omega (arith, ap length whole, length-append (listed vs []) end) in
         ap (λ k. take k (listed vs end)) long ∙ ap (take (length (listed vs []))) whole ∙ take_at (listed vs []) end _ refl
 
--- a list that is closed at n
-pub list_closed : (s : List ℕ) (n : ℕ) → n < length s → (get_or s 0 0 ≡ 41 → ⊥) → Some (drop n s) ≡ elements (length s) s → Some (values (take (n - 0) s), drop (n + 1) s) ≡ list_in s
-list_closed s n h apart e =
-    let z : n - 0 ≡ n = omega arith in
-    ap (λ k. Some (values (take k s), drop (n + 1) s)) z
-    ∙ ap (λ l. Some (values l, drop (n + 1) s)) (sym (front_drop s n (omega arith)))
-    ∙ ap (λ l. Some (values (front s (drop n s)), l)) (sym (drop-drop 1 n s))
-    ∙ ap (option_map (valued s)) e
-    ∙ ap (λ b. cond b (Some ([], drop 1 s)) (option_map (valued s) (elements (length s) s))) (sym (ne_eqb _ _ apart))
+-- the first byte of a list, and the list of the others
+pub record First (s : List ℕ) (b : ℕ) (t : List ℕ) : Type 0 where
+  pub byte : b ≤ 255
+  pub first : values s ≡ b ∷ values t
+  pub listing : Listing t
+  pub small : bytes_only (values t) ≡ true
 
-pub list_whole : (s : List ℕ) (n : ℕ) → n < length s → Some (drop n s) ≡ elements (length s) s → Listing (take (n - 0) s)
-list_whole s n h e =
-    let z : n - 0 ≡ n = omega arith in
-    subst Listing (front_drop s n (omega arith) ∙ ap (λ k. take k s) (sym z)) (front_listing s (drop n s) (sym e))
+others : (bs : List ℕ) → drop 1 (spaced (map decimal bs) []) ≡ listed bs []
+others [] = refl
+others (b ∷ bs) = refl
+
+spaced_stops : (bs : List ℕ) → digit (get_or (spaced (map decimal bs) []) 0 0) ≡ false
+spaced_stops [] = refl
+spaced_stops (b ∷ bs) = refl
+
+module _ (s : List ℕ) (listing : Listing s) (small : bytes_only (values s) ≡ true) where
+  -- a list whose text begins with no number has none
+  pub first_none : None ≡ number_in 255 s → values s ≡ []
+  first_none e = go (values s) refl where
+    go : (vs : List ℕ) → values s ≡ vs → values s ≡ []
+    go [] h = h
+    go (b ∷ bs) h =
+        let f = ap bytes_only (sym h) ∙ small in
+        let text : s ≡ decimal b ++ spaced (map decimal bs) [] = listing ∙ ap (λ l. listed l []) h in
+        cc (e ∙ ap (number_in 255) text ∙ number_back 255 (omega arith) b _ (bytes_first b bs f) (spaced_stops bs))
+
+  -- the number that its text begins with is its first byte
+  pub first_some : (b : ℕ) (r t : List ℕ) → Some (b, r) ≡ number_in 255 s → t ≡ drop 1 r → First s b t
+  first_some b r t e d = go (values s) refl where
+    go : (vs : List ℕ) → values s ≡ vs → First s b t
+    go [] h = cc (sym (e ∙ ap (number_in 255) (listing ∙ ap (λ l. listed l []) h)))
+    go (v ∷ vs) h =
+        let f = ap bytes_only (sym h) ∙ small in
+        let low = bytes_first v vs f in
+        let text : s ≡ decimal v ++ spaced (map decimal vs) [] = listing ∙ ap (λ l. listed l []) h in
+        let p = some_same v b _ r (sym (e ∙ ap (number_in 255) text ∙ number_back 255 (omega arith) v _ low (spaced_stops vs))) in
+        let rest : t ≡ listed vs [] = d ∙ ap (drop 1) (sym p.1) ∙ others vs in
+        let same : values t ≡ vs = ap values rest ∙ values_listed vs (bytes_rest v vs f) in
+        record {
+          byte = subst (λ k. k ≤ 255) p.0 low;
+          first = h ∙ ap (λ k. k ∷ vs) p.0 ∙ ap (λ l. b ∷ l) (sym same);
+          listing = rest ∙ ap (λ l. listed l []) (sym same);
+          small = ap bytes_only same ∙ bytes_rest v vs f;
+        }

@@ -1,5 +1,5 @@
 -- Reading a line finds the call that is written so. Assumes nothing.
-use Rattle.std.proofs.Common.{◌≡◌, ℕ, ◌^◌, ◌<◌, Bool, true, false, cond, eqb, List, [], ◌∷◌, ◌++◌, map, length, get_or, IfOk, Some, None, Ok, Err, codes, decimal, Option, Result, sym, refl, ap, ◌∙◌, subst, append_assoc, arith, lit<}
+use Rattle.std.proofs.Common.{◌≡◌, ℕ, ◌^◌, ◌<◌, Bool, true, false, cond, eqb, List, [], ◌∷◌, ◌++◌, map, length, get_or, Some, None, Ok, Err, codes, decimal, Option, Result, sym, refl, ap, ◌∙◌, subst, append_assoc, lit<}
 use Rattle.std.specs.Str.{bytes_eq}
 use Rattle.std.proofs.lemmas.Slice.Eq.{bytes_eq-Decides}
 use Rattle.std.proofs.lemmas.List.{nil_from_length}
@@ -13,27 +13,21 @@ use Rattle.commands.specs.declared.call.DriveKind.TheVariants.{Buffered, Direct}
 use Rattle.commands.specs.declared.call.Fate.{Fate}
 use Rattle.commands.specs.declared.call.Fate.TheVariants.{Kept, Lost}
 use Rattle.commands.specs.declared.call.Call.{Call}
-use Rattle.commands.specs.declared.call.Call.TheVariants as call
-use Rattle.commands.specs.Printing.{call_text}
-use Rattle.commands.specs.Values.{values}
+use Rattle.commands.specs.declared.token.reader.Misfit.{Misfit}
 use Rattle.commands.proofs.Listings.{listed_end}
 use Rattle.commands.specs.Numbers.{digit}
 use Rattle.commands.specs.Grammar.{spaced, listed, letter, Part, opening, closing, gap, word, number, bytes, spelt, Fit, Ends, Begins}
 use Rattle.commands.specs.Tokens.{cut}
-use Rattle.commands.specs.Calls.{verb_word, store_word, drive_word, fate_word, Asked, make, write, read, flush, seal, poll, checkpoint, clean, reap, cut_kept, cut_lost, mount, verb, items, written, AllFit, asked, Whole, OneMeaning}
+use Rattle.commands.specs.Calls.{verb_word, store_word, drive_word, fate_word, Asked, make, write, read, flush, seal, poll, checkpoint, clean, reap, cut_kept, cut_lost, mount, verb, items, written, AllFit, asked, OneMeaning}
 use Rattle.commands.specs.Reading.{chain, named, the_opening, the_closing, the_gap, the_number, the_bytes, the_word, verbs, stores, drives, fates, the_verb, the_store, the_drive, the_fate, picked, wanted, at, item, cut_items, items_of, ended, reading, turned, left_of, Found, ReadsBack}
-use Rattle.commands.proofs.Figures.{none_some}
 use Rattle.commands.proofs.Cuts.{cut_is, cut_back}
-
-err_ok : {A : Type 0} {P : Type 0} (n : ℕ) (x : A) → ◌≡◌ {A = Result A ℕ} (Err n) (Ok x) → P
-err_ok n x e = absurd (let z : ◌≡◌ {A = ℕ} 0 1 = cc in omega arith)
 
 ok_same : {A B : Type 0} (a b : A) (x y : B) → ◌≡◌ {A = Result (A × B) ℕ} (Ok (a, x)) (Ok (b, y)) → (a ≡ b) × (x ≡ y)
 ok_same {A} {B} a b x y e = let z : ◌≡◌ {A = A × B} (a, x) (b, y) = cc in (ap (λ p. p.0) z, ap (λ p. p.1) z)
 
 chain_is : {A B : Type 0} (o : Result A ℕ) (f : A → Result B ℕ) (y : B) → chain o f ≡ Ok y → (x : A) × (o ≡ Ok x) × (f x ≡ Ok y)
 chain_is (Ok x) f y e = (x, refl, e)
-chain_is (Err n) f y e = err_ok n y e
+chain_is (Err n) f y e = cc
 
 chain_ok : {A B : Type 0} (o : Result A ℕ) (f : A → Result B ℕ) (x : A) (y : Result B ℕ) → o ≡ Ok x → f x ≡ y → chain o f ≡ y
 chain_ok o f x y e h = ap (λ p. chain p f) e ∙ h
@@ -47,13 +41,13 @@ record Met {A : Type 0} (kind : Part → Option A) (line : List ℕ) (x : A) (r 
 at_is : {A : Type 0} (kind : Part → Option A) (line : List ℕ) (x : A) (r : List ℕ) → at kind line ≡ Ok (x, r) → Met kind line x r
 at_is {A} kind line x r e = go (cut line) refl e where
   pick : (p : Part) (s : List ℕ) → cut line ≡ Some (p, s) → (o : Option A) → kind p ≡ o → picked (length line) o s ≡ Ok (x, r) → Met kind line x r
-  pick p s q None k f = err_ok _ _ f
+  pick p s q None k f = cc
   pick p s q (Some y) k f =
       let z = ok_same y x s r f in
       record { part = p; begins = subst (λ l. Begins line p l) z.1 (cut_is line p s q); kept = k ∙ ap Some z.0 }
 
   go : (o : Option (Part × List ℕ)) → cut line ≡ o → wanted kind (length line) o ≡ Ok (x, r) → Met kind line x r
-  go None q f = err_ok _ _ f
+  go None q f = cc
   go (Some p) q f = pick p.0 p.1 q (kind p.0) refl f
 
 at_back : {A : Type 0} (kind : Part → Option A) (p : Part) (x : A) (r : List ℕ) → Fit p → Ends p r → kind p ≡ Some x → at kind (spelt p ++ r) ≡ Ok (x, r)
@@ -64,58 +58,34 @@ at_back kind p x r f e k =
 -- what part a kind wants
 is_opening : (p : Part) (x : Unit {0}) → the_opening p ≡ Some x → p ≡ opening
 is_opening opening x e = refl
-is_opening closing x e = none_some _ e
-is_opening gap x e = none_some _ e
-is_opening (word w) x e = none_some _ e
-is_opening (number n) x e = none_some _ e
-is_opening (bytes bs) x e = none_some _ e
+is_opening p x e = cc
 
 is_closing : (p : Part) (x : Unit {0}) → the_closing p ≡ Some x → p ≡ closing
-is_closing opening x e = none_some _ e
 is_closing closing x e = refl
-is_closing gap x e = none_some _ e
-is_closing (word w) x e = none_some _ e
-is_closing (number n) x e = none_some _ e
-is_closing (bytes bs) x e = none_some _ e
+is_closing p x e = cc
 
 is_gap : (p : Part) (x : Unit {0}) → the_gap p ≡ Some x → p ≡ gap
-is_gap opening x e = none_some _ e
-is_gap closing x e = none_some _ e
 is_gap gap x e = refl
-is_gap (word w) x e = none_some _ e
-is_gap (number n) x e = none_some _ e
-is_gap (bytes bs) x e = none_some _ e
+is_gap p x e = cc
 
 is_number : (p : Part) (x : ℕ) → the_number p ≡ Some x → p ≡ number x
-is_number opening x e = none_some _ e
-is_number closing x e = none_some _ e
-is_number gap x e = none_some _ e
-is_number (word w) x e = none_some _ e
 is_number (number n) x e = cc
-is_number (bytes bs) x e = none_some _ e
+is_number p x e = cc
 
 is_bytes : (p : Part) (x : List ℕ) → the_bytes p ≡ Some x → p ≡ bytes x
-is_bytes opening x e = none_some _ e
-is_bytes closing x e = none_some _ e
-is_bytes gap x e = none_some _ e
-is_bytes (word w) x e = none_some _ e
-is_bytes (number n) x e = none_some _ e
 is_bytes (bytes bs) x e = cc
+is_bytes p x e = cc
 
 named_is : {V : Type 0} (spell : V → List ℕ) (vs : List V) (w : List ℕ) (v : V) → named spell vs w ≡ Some v → w ≡ spell v
-named_is spell [] w v e = none_some _ e
+named_is spell [] w v e = cc
 named_is {V} spell (u ∷ us) w v e = go (bytes_eq w (spell u)) refl (named_is spell us w v) e where
   go : (b : Bool) → bytes_eq w (spell u) ≡ b → (named spell us w ≡ Some v → w ≡ spell v) → cond b (Some u) (named spell us w) ≡ Some v → w ≡ spell v
   go true h rec f = let z : u ≡ v = cc in (bytes_eq-Decides w (spell u)).0 h ∙ ap spell z
   go false h rec f = rec f
 
 is_word : {V : Type 0} (spell : V → List ℕ) (vs : List V) (p : Part) (v : V) → the_word spell vs p ≡ Some v → p ≡ word (spell v)
-is_word spell vs opening v e = none_some _ e
-is_word spell vs closing v e = none_some _ e
-is_word spell vs gap v e = none_some _ e
 is_word spell vs (word w) v e = ap word (named_is spell vs w v e)
-is_word spell vs (number n) v e = none_some _ e
-is_word spell vs (bytes bs) v e = none_some _ e
+is_word spell vs p v e = cc
 
 -- the part that stands at the front of a line
 met_is : {A : Type 0} (kind : Part → Option A) (form : A → Part) → ((p : Part) (x : A) → kind p ≡ Some x → p ≡ form x) → (line : List ℕ) (x : A) (r : List ℕ) → at kind line ≡ Ok (x, r) → Begins line (form x) r
@@ -237,7 +207,7 @@ reading_is line a e =
     over b s f = go (eqb (length s) 0) refl f where
       go : (x : Bool) → eqb (length s) 0 ≡ x → cond x (Ok b) (Err (length s)) ≡ Ok a → (b ≡ a) × (s ≡ [])
       go true h g = (cc, nil_from_length s (eqb-true _ _ h))
-      go false h g = err_ok _ _ g
+      go false h g = cc
 
 -- a call's writing is read as the call
 module _ (z : List ℕ) where
@@ -261,12 +231,7 @@ module _ (z : List ℕ) where
   items_back (read a n) f =
       chain_ok _ (λ b. chain (item the_number b.1) (λ n. Ok (read b.0 n.0, n.1))) (a, _) _ (number_back a _ f.0 refl)
       (chain_ok _ (λ n. Ok (read a n.0, n.1)) (n, _) _ (number_back n _ f.1.0 refl) refl)
-  items_back flush f = refl
-  items_back seal f = refl
-  items_back poll f = refl
-  items_back checkpoint f = refl
   items_back (clean o) f = chain_ok _ (λ o. Ok (clean o.0, o.1)) (o, _) _ (number_back o _ f.0 refl) refl
-  items_back reap f = refl
   items_back (cut_kept s d) f =
       chain_ok _ (λ f. cut_items f.0 f.1) (Kept, 32 ∷ (decimal s ++ (32 ∷ (decimal d ++ 41 ∷ z)))) _ (item_back the_fate (word (fate_word Kept)) Kept (32 ∷ (decimal s ++ (32 ∷ (decimal d ++ 41 ∷ z)))) (lit< tt, refl) refl refl)
       (chain_ok _ (λ s. chain (item the_number s.1) (λ d. Ok (cut_kept s.0 d.0, d.1))) (s, 32 ∷ (decimal d ++ 41 ∷ z)) _ (number_back s (32 ∷ (decimal d ++ 41 ∷ z)) f.1.0 refl)
@@ -274,7 +239,7 @@ module _ (z : List ℕ) where
   items_back (cut_lost s) f =
       chain_ok _ (λ f. cut_items f.0 f.1) (Lost, 32 ∷ (decimal s ++ 41 ∷ z)) _ (item_back the_fate (word (fate_word Lost)) Lost (32 ∷ (decimal s ++ 41 ∷ z)) (lit< tt, refl) refl refl)
       (chain_ok _ (λ s. Ok (cut_lost s.0, s.1)) (s, _) _ (number_back s _ f.1.0 refl) refl)
-  items_back mount f = refl
+  items_back a f = refl
 
 -- the rest of a line, after its first word
 abbrev tail : Verb → List ℕ → Result Asked ℕ
@@ -282,25 +247,15 @@ tail v line = chain (items_of v line) (λ c. chain (at the_closing c.1) (λ z. e
 
 begun : (a : Asked) → reading (written a) ≡ tail (verb a) (spaced (map spelt (items a)) (41 ∷ []))
 begun (make b n s d) = refl
-begun (write a bs) = refl
-begun (read a n) = refl
-begun flush = refl
-begun seal = refl
-begun poll = refl
-begun checkpoint = refl
-begun (clean o) = refl
-begun reap = refl
-begun (cut_kept s d) = refl
-begun (cut_lost s) = refl
-begun mount = refl
+begun a = refl
 
 pub reading_back : (a : Asked) → AllFit (items a) → reading (written a) ≡ Ok a
 reading_back a f = begun a ∙ chain_ok _ (λ c. chain (at the_closing c.1) (λ z. ended c.0 z.1)) (a, 41 ∷ []) (Ok a) (items_back [] a f) refl
 
 -- what a reading says of the calls that are written so
-pub found_from : (line : List ℕ) (r : Result Call ℕ) → turned asked r ≡ reading line → IfOk r Whole → Found line r
-found_from line (Ok c) e w = let q = reading_is line (asked c) (sym e) in (q.0, q.1, w)
-found_from line (Err n) e w = ((λ a is fit. err_ok n a (e ∙ ap reading is ∙ reading_back a fit)), ap left_of e)
+pub found_from : (line : List ℕ) (r : Result Call Misfit) → turned asked r ≡ reading line → Found line r
+found_from line (Ok c) e = reading_is line (asked c) (sym e)
+found_from line (Err n) e = ((λ a is fit. cc (e ∙ ap reading is ∙ reading_back a fit)), ap left_of e)
 
 -- no line asks for two calls
 pub one_meaning : OneMeaning
@@ -310,24 +265,10 @@ one_meaning line a b p q =
 
 -- a written call is read back
 pub reads_back : ReadsBack
-reads_back a f h (Ok c) p = ap Some (one_meaning (written a) (asked c) a p.0 (record { short = h; is = refl; fit = f }))
+reads_back a f h (Ok c) p = ap Some (one_meaning (written a) (asked c) a p (record { short = h; is = refl; fit = f }))
 reads_back a f h (Err b) p = absurd (p.0 a (record { short = h; is = refl; fit = f }))
 
--- a call that was read is printed as it is written
-pub printed_is : (c : Call) → Whole c → call_text c ≡ written (asked c)
-printed_is (call.Make b n s d) w = refl
-printed_is (call.Write a fill) w =
-    ap (λ t. codes "(write " ++ (decimal a ++ (codes " (" ++ t))) (ap (λ t. t ++ 41 ∷ 41 ∷ []) w ∙ sym (listed_end (values fill.text.now) (41 ∷ 41 ∷ [])))
-    ∙ ap (λ t. codes "(write " ++ (decimal a ++ (codes " (" ++ t))) (close (values fill.text.now)) where
-      close : (vs : List ℕ) → listed vs (41 ∷ 41 ∷ []) ≡ listed vs (41 ∷ []) ++ 41 ∷ []
-      close vs = listed_end vs (41 ∷ 41 ∷ []) ∙ sym (append_assoc (listed vs []) (41 ∷ []) (41 ∷ [])) ∙ ap (λ t. t ++ 41 ∷ []) (sym (listed_end vs (41 ∷ [])))
-printed_is (call.Read a n) w = refl
-printed_is call.Flush w = refl
-printed_is call.Seal w = refl
-printed_is call.Poll w = refl
-printed_is call.Checkpoint w = refl
-printed_is (call.Clean o) w = refl
-printed_is call.Reap w = refl
-printed_is (call.CutKept s d) w = refl
-printed_is (call.CutLost s) w = refl
-printed_is call.Mount w = refl
+-- how a write with its list is written, part by part
+pub written_write : (a : ℕ) (vs : List ℕ) → codes "(write " ++ (decimal a ++ (codes " (" ++ (listed vs [] ++ codes "))"))) ≡ written (write a vs)
+written_write a vs =
+    ap (λ t. codes "(write " ++ (decimal a ++ (codes " (" ++ t))) (sym (append_assoc (listed vs []) (41 ∷ []) (41 ∷ [])) ∙ ap (λ t. t ++ 41 ∷ []) (sym (listed_end vs (41 ∷ []))))

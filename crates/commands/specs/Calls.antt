@@ -11,7 +11,7 @@ use Rattle.commands.specs.declared.call.Fate.TheVariants.{Kept, Lost}
 use Rattle.commands.specs.declared.call.Call.{Call}
 use Rattle.commands.specs.declared.call.Call.TheVariants as call
 use Rattle.commands.specs.Grammar.{spaced, Part, word, number, bytes, spelt, Fit}
-use Rattle.commands.specs.Values.{values, Listing}
+use Rattle.commands.specs.Values.{values}
 
 -- The words.
 abbrev pub verb_word : Verb → List ℕ
@@ -69,21 +69,6 @@ asked (call.CutKept s d) = cut_kept s d
 asked (call.CutLost s) = cut_lost s
 asked call.Mount = mount
 
--- A call's list has the text of its values.
-abbrev pub Whole : Call → Type 0
-Whole (call.Make b n s d) = Unit {0}
-Whole (call.Write a fill) = Listing fill.text.now
-Whole (call.Read a n) = Unit {0}
-Whole call.Flush = Unit {0}
-Whole call.Seal = Unit {0}
-Whole call.Poll = Unit {0}
-Whole call.Checkpoint = Unit {0}
-Whole (call.Clean o) = Unit {0}
-Whole call.Reap = Unit {0}
-Whole (call.CutKept s d) = Unit {0}
-Whole (call.CutLost s) = Unit {0}
-Whole call.Mount = Unit {0}
-
 -- The table: the word of a call, and its items.
 abbrev pub verb : Asked → Verb
 verb (make b n s d) = Make
@@ -103,15 +88,10 @@ abbrev pub items : Asked → List Part
 items (make b n s d) = number b ∷ number n ∷ word (store_word s) ∷ word (drive_word d) ∷ []
 items (write a bs) = number a ∷ bytes bs ∷ []
 items (read a n) = number a ∷ number n ∷ []
-items flush = []
-items seal = []
-items poll = []
-items checkpoint = []
 items (clean o) = number o ∷ []
-items reap = []
 items (cut_kept s d) = word (fate_word Kept) ∷ number s ∷ number d ∷ []
 items (cut_lost s) = word (fate_word Lost) ∷ number s ∷ []
-items mount = []
+items a = []
 
 -- A call is written as its word and its items in brackets, one space before each item.
 abbrev pub written : Asked → List ℕ

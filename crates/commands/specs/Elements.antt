@@ -1,21 +1,16 @@
 -- The steps that read a list. Only inner functions cite them. Assumes nothing.
 use Rattle.std.specs.Prelude.{ℕ, zero, suc, ◌-◌, cond, List, [], length, take, drop, Some, None, Option, ◌==◌, slice_index}
-use Rattle.std.specs.Option.{option_map}
+use Rattle.std.specs.Option.{option_map, option_and_then}
 use Rattle.commands.specs.Numbers.{number_in}
 use Rattle.commands.specs.Values.{values}
-
--- One step after another, while there is something to go on from.
-abbrev pub bind : {A B : Type 0} → Option A → (A → Option B) → Option B
-bind None f = None
-bind (Some x) f = f x
 
 -- At most k further elements of a list: the text from the closing bracket on.
 abbrev pub elements : ℕ → List ℕ → Option (List ℕ)
 elements zero s = None
 elements (suc k) s =
-    bind (number_in 255 s) (λ p.
-    cond (slice_index p.1 0 == 41) (Some p.1)
-    (cond (slice_index p.1 0 == 32) (elements k (drop 1 p.1)) None))
+    option_and_then
+    (λ p. cond (slice_index p.1 0 == 41) (Some p.1) (cond (slice_index p.1 0 == 32) (elements k (drop 1 p.1)) None))
+    (number_in 255 s)
 
 -- The text of s before r, its end.
 abbrev pub front : List ℕ → List ℕ → List ℕ

@@ -46,21 +46,17 @@ spelt (bytes bs) = 40 ∷ listed bs (41 ∷ [])
 
 -- A word has letters, and at least one; a number has 32 bits; a list has bytes.
 abbrev pub Fit : Part → Type 0
-Fit opening = Unit {0}
-Fit closing = Unit {0}
-Fit gap = Unit {0}
 Fit (word w) = (0 < length w) × (letters w ≡ true)
 Fit (number n) = n < 2 ^ 32
 Fit (bytes bs) = bytes_only bs ≡ true
+Fit p = Unit {0}
 
 -- A part ends where it cannot go on: no letter follows a word, and no digit a number. A bracket that opens a call has a letter after it, for else it opens a list.
 abbrev pub Ends : Part → List ℕ → Type 0
 Ends opening r = letter (slice_index r 0) ≡ true
-Ends closing r = Unit {0}
-Ends gap r = Unit {0}
 Ends (word w) r = letter (slice_index r 0) ≡ false
 Ends (number n) r = digit (slice_index r 0) ≡ false
-Ends (bytes bs) r = Unit {0}
+Ends p r = Unit {0}
 
 -- The line begins with the part p, and rest follows.
 pub record Begins (line : List ℕ) (p : Part) (rest : List ℕ) : Type 0 where

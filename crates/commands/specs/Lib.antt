@@ -5,4 +5,3 @@ pub mod Elements
 pub mod Tokens
 pub mod Calls
 pub mod Reading
-pub mod Printing

@@ -1,7 +1,7 @@
 -- The steps that read a call. Each gives what it read and what follows, or how much of the line is left where a part does not fit. Assumes nothing.
 use Rattle.std.specs.Prelude.{◌≡◌, ℕ, ◌-◌, ◌≤◌, cond, List, [], ◌∷◌, length, Some, None, Ok, Err, Option, Result, ◌==◌, nat_le}
 use Rattle.std.specs.Option.{option_map}
-use Rattle.std.specs.Result.{result_ok}
+use Rattle.std.specs.Result.{result_ok, result_map_both}
 use Rattle.std.specs.Str.{bytes_eq}
 use Rattle.commands.specs.declared.call.Verb.{Verb}
 use Rattle.commands.specs.declared.call.Verb.TheVariants.{Make, Write, Read, Flush, Seal, Poll, Checkpoint, Clean, Reap, Cut, Mount}
@@ -15,17 +15,19 @@ use Rattle.commands.specs.Grammar.{Part, opening, closing, gap, word, number, by
 use Rattle.commands.specs.Tokens.{cut}
 use Rattle.commands.specs.declared.call.Call.{Call}
 use Rattle.commands.specs.declared.call.Bad.{Bad}
-use Rattle.commands.specs.Calls.{asked, items, written, AllFit, Asks, Whole, verb_word, store_word, drive_word, fate_word, Asked, make, write, read, flush, seal, poll, checkpoint, clean, reap, cut_kept, cut_lost, mount}
+use Rattle.commands.specs.declared.token.reader.Misfit.{Misfit}
+use Rattle.commands.specs.declared.token.reader.Mark.{Mark}
+use Rattle.commands.specs.declared.token.reader.Mark.TheVariants.{Open, Close, Space}
+use Rattle.commands.specs.Calls.{asked, items, written, AllFit, Asks, verb_word, store_word, drive_word, fate_word, Asked, make, write, read, flush, seal, poll, checkpoint, clean, reap, cut_kept, cut_lost, mount}
 
 -- One step after another.
 abbrev pub chain : {A B : Type 0} → Result A ℕ → (A → Result B ℕ) → Result B ℕ
 chain (Ok x) f = f x
 chain (Err e) f = Err e
 
--- What was read, turned into something else.
-abbrev pub turned : {A B : Type 0} → (A → B) → Result A ℕ → Result B ℕ
-turned f (Ok x) = Ok (f x)
-turned f (Err e) = Err e
+-- What was read, turned into something else; or how much is left where a part does not fit.
+abbrev pub turned : {A B : Type 0} → (A → B) → Result A Misfit → Result B ℕ
+turned f r = result_map_both f (λ e. e.left) r
 
 -- The word that is meant, of those listed.
 abbrev pub named : {V : Type 0} → (V → List ℕ) → List V → List ℕ → Option V
@@ -35,51 +37,32 @@ named spell (v ∷ vs) w = cond (bytes_eq w (spell v)) (Some v) (named spell vs 
 -- What a part is, if it is of the kind that is wanted.
 abbrev pub the_opening : Part → Option (Unit {0})
 the_opening opening = Some tt
-the_opening closing = None
-the_opening gap = None
-the_opening (word w) = None
-the_opening (number n) = None
-the_opening (bytes bs) = None
+the_opening p = None
 
 abbrev pub the_closing : Part → Option (Unit {0})
-the_closing opening = None
 the_closing closing = Some tt
-the_closing gap = None
-the_closing (word w) = None
-the_closing (number n) = None
-the_closing (bytes bs) = None
+the_closing p = None
 
 abbrev pub the_gap : Part → Option (Unit {0})
-the_gap opening = None
-the_gap closing = None
 the_gap gap = Some tt
-the_gap (word w) = None
-the_gap (number n) = None
-the_gap (bytes bs) = None
+the_gap p = None
+
+abbrev pub the_mark : Mark → Part → Option (Unit {0})
+the_mark Open = the_opening
+the_mark Close = the_closing
+the_mark Space = the_gap
 
 abbrev pub the_number : Part → Option ℕ
-the_number opening = None
-the_number closing = None
-the_number gap = None
-the_number (word w) = None
 the_number (number n) = Some n
-the_number (bytes bs) = None
+the_number p = None
 
 abbrev pub the_bytes : Part → Option (List ℕ)
-the_bytes opening = None
-the_bytes closing = None
-the_bytes gap = None
-the_bytes (word w) = None
-the_bytes (number n) = None
 the_bytes (bytes bs) = Some bs
+the_bytes p = None
 
 abbrev pub the_word : {V : Type 0} → (V → List ℕ) → List V → Part → Option V
-the_word spell vs opening = None
-the_word spell vs closing = None
-the_word spell vs gap = None
 the_word spell vs (word w) = named spell vs w
-the_word spell vs (number n) = None
-the_word spell vs (bytes bs) = None
+the_word spell vs p = None
 
 -- All verbs, kinds and fates.
 abbrev pub verbs : List Verb
@@ -164,13 +147,13 @@ abbrev pub misfit : List ℕ → ℕ
 misfit line = cond (nat_le (length line) 255) (length line - left_of (reading line)) 255
 
 -- What is read from a line of any length: the call that is written so, or none, and how much is left where a part does not fit.
-abbrev pub Found : List ℕ → Result Call ℕ → Type 0
-Found line (Ok c) = (line ≡ written (asked c)) × AllFit (items (asked c)) × Whole c
-Found line (Err n) = ((a : Asked) → line ≡ written a → AllFit (items a) → ⊥) × (n ≡ left_of (reading line))
+abbrev pub Found : List ℕ → Result Call Misfit → Type 0
+Found line (Ok c) = (line ≡ written (asked c)) × AllFit (items (asked c))
+Found line (Err e) = ((a : Asked) → line ≡ written a → AllFit (items a) → ⊥) × (e.left ≡ left_of (reading line))
 
 -- What is read from a line: the call that the line asks for; or none, exactly where it asks for none, and where the first part stands that does not fit.
 abbrev pub Parsed : List ℕ → Result Call Bad → Type 0
-Parsed line (Ok c) = Asks line (asked c) × Whole c
+Parsed line (Ok c) = Asks line (asked c)
 Parsed line (Err b) = ((a : Asked) → Asks line a → ⊥) × (b.at ≡ misfit line)
 
 -- A call that is written in at most 255 bytes is read from them, whatever reads lines as it should.

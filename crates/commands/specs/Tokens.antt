@@ -1,11 +1,12 @@
 -- What a token stands for, and the step that cuts one off. Assumes nothing.
-use Rattle.std.specs.Prelude.{◌≡◌, ℕ, ◌+◌, ◌-◌, ◌^◌, cond, List, [], ◌∷◌, take, drop, Some, None, Option, ◌==◌, slice_index}
+use Rattle.std.specs.Prelude.{◌≡◌, ℕ, ◌-◌, ◌^◌, cond, List, take, drop, Some, None, Option, ◌==◌, slice_index}
+use Rattle.std.specs.List.{prefix_len}
 use Rattle.std.specs.Option.{option_map}
 use Rattle.commands.specs.declared.token.Token.{Token}
 use Rattle.commands.specs.declared.token.Token.TheVariants.{Open, Close, Space, Word, Number, List as Bytes}
 use Rattle.commands.specs.Numbers.{digit, number_in}
 use Rattle.commands.specs.Grammar.{Part, opening, closing, gap, word, number, bytes, letter, Begins}
-use Rattle.commands.specs.Values.{values, Listing}
+use Rattle.commands.specs.Values.{values}
 use Rattle.commands.specs.Elements.{list_in}
 
 -- The part of the line that a token is.
@@ -17,15 +18,6 @@ part (Word w) = word w.now
 part (Number n) = number n
 part (Bytes l) = bytes (values l.text.now)
 
--- A list's text is that of its values, so that the text itself stands in the line.
-abbrev pub Whole : Token → Type 0
-Whole Open = Unit {0}
-Whole Close = Unit {0}
-Whole Space = Unit {0}
-Whole (Word w) = Unit {0}
-Whole (Number n) = Unit {0}
-Whole (Bytes l) = Listing l.text.now
-
 -- A part is taken if the line begins with it, and the rest is left. None is taken exactly where the line begins with no part, and the line is left.
 abbrev pub Taken : List ℕ → Option Part → List ℕ → Type 0
 Taken line (Some p) rest = Begins line p rest
@@ -33,8 +25,7 @@ Taken line None rest = (rest ≡ line) × ((p : Part) (r : List ℕ) → Begins 
 
 -- How many letters stand at the front.
 abbrev pub run : List ℕ → ℕ
-run [] = 0
-run (b ∷ bs) = cond (letter b) (run bs + 1) 0
+run = prefix_len letter
 
 -- The step after an opening bracket. Inner functions cite it, and the next one.
 abbrev pub cut_opened : List ℕ → Option (Part × List ℕ)

@@ -1,5 +1,5 @@
 -- The numbers that a list's text writes. Assumes nothing.
-use Rattle.std.specs.Prelude.{◌≡◌, ℕ, ◌+◌, ◌-◌, ◌*◌, ◌≤◌, Bool, true, false, cond, List, [], ◌∷◌, Some, None, Option, ◌==◌}
+use Rattle.std.specs.Prelude.{◌≡◌, ℕ, ◌+◌, ◌-◌, ◌*◌, cond, List, [], ◌∷◌, Some, None, Option, ◌==◌}
 use Rattle.commands.specs.Grammar.{listed}
 
 -- The numbers of a text, of whose first number n is what its digits before the text write, if there are any.
@@ -16,20 +16,3 @@ values text = values_on None text
 -- The text is what its numbers are written as, so that it has nothing else in it.
 abbrev pub Listing : List ℕ → Type 0
 Listing text = text ≡ listed (values text) []
-
--- The first number, if there is one, is no byte.
-abbrev pub NoByte : List ℕ → Type 0
-NoByte [] = Unit {0}
-NoByte (v ∷ vs) = 256 ≤ v
-
--- The first byte is taken off a list. None is taken exactly where there is none, and the list is left.
-abbrev pub FirstOff : List ℕ → Option ℕ → List ℕ → Type 0
-FirstOff vs (Some b) ws = vs ≡ b ∷ ws
-FirstOff vs None ws = (ws ≡ vs) × NoByte vs
-
--- How many numbers a text has after a number's digits, or after none. Inner functions cite it.
-abbrev pub cells : Bool → List ℕ → ℕ
-cells true [] = 1
-cells false [] = 0
-cells true (c ∷ cs) = cond (c == 32) (1 + cells false cs) (cells true cs)
-cells false (c ∷ cs) = cond (c == 32) (1 + cells false cs) (cells true cs)

@@ -2,7 +2,7 @@
 use crate::list::ByteList;
 
 // The first word of a line.
-#[derive(Clone, Copy)]
+#[derive(Clone, Copy, PartialEq, Eq, Debug)]
 pub enum Verb {
     Make,
     Write,
@@ -18,21 +18,21 @@ pub enum Verb {
 }
 
 // The kind of an object store.
-#[derive(Clone, Copy)]
+#[derive(Clone, Copy, PartialEq, Eq, Debug)]
 pub enum StoreKind {
     Paged,
     Packed,
 }
 
 // The kind of a log drive.
-#[derive(Clone, Copy)]
+#[derive(Clone, Copy, PartialEq, Eq, Debug)]
 pub enum DriveKind {
     Buffered,
     Direct,
 }
 
 // What becomes of the log drive at a power cut.
-#[derive(Clone, Copy)]
+#[derive(Clone, Copy, PartialEq, Eq, Debug)]
 pub enum Fate {
     Kept,
     Lost,
@@ -63,6 +63,7 @@ pub enum Call<'a> {
         object: u32,
     },
     Reap,
+    // A cut is two calls, since a lost drive has no number of its own; a number that may be absent would hide which word was written.
     CutKept {
         store: u32,
         drive: u32,
@@ -74,7 +75,7 @@ pub enum Call<'a> {
 }
 
 // A line that asks for no call: `at` is where the first part stands that does not fit.
-#[derive(Clone, Copy)]
+#[derive(Clone, Copy, PartialEq, Eq, Debug)]
 pub struct Bad {
     pub at: usize,
 }

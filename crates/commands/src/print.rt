@@ -1,7 +1,8 @@
-// Prints calls as they are written.
-ghost use Rattle.std.specs.Prelude.{◌≡◌, IfOk, Some, string_bytes};
-ghost use Rattle.commands.specs.Calls.{store_word, drive_word, asked, written, Whole};
-ghost use Rattle.commands.specs.Printing.{list_text, call_text};
+// Prints calls as they are written. The kinds of store and drive each print their own words.
+ghost use Rattle.std.specs.Prelude.{◌≡◌, [], IfOk, Some, string_bytes};
+ghost use Rattle.commands.specs.Grammar.{listed};
+ghost use Rattle.commands.specs.Values.{values};
+ghost use Rattle.commands.specs.Calls.{store_word, drive_word, asked, written};
 
 use crate::call::{Call, DriveKind, StoreKind};
 use crate::list::ByteList;
@@ -32,7 +33,7 @@ impl fmt::Display for DriveKind {
 }
 
 impl fmt::Display for ByteList<'_> {
-    ghost output = { λ x. Some (list_text x) };
+    ghost output = { λ x. Some (listed (values x.text.now) []) };
 
     fn fmt<W: fmt::Write>(&self, f: &mut fmt::Formatter<W>) -> fmt::Result {
         match from_utf8(self.text) {
@@ -43,7 +44,7 @@ impl fmt::Display for ByteList<'_> {
 }
 
 impl fmt::Display for Call<'_> {
-    ghost output = { λ x. Some (call_text x) };
+    ghost output = { λ x. Some (written (asked x)) };
 
     fn fmt<W: fmt::Write>(&self, f: &mut fmt::Formatter<W>) -> fmt::Result {
         match *self {
@@ -68,18 +69,9 @@ impl fmt::Display for Call<'_> {
     }
 }
 
-// The text of the call, which for a call that was read is how it is written.
-fn printed(heap: Global, call: &Call) -> Result<String, AllocError>
-    ensures text { IfOk result (λ s. string_bytes s ≡ call_text call.now) }
-    ensures written { IfOk result (λ s. Whole call.now → string_bytes s ≡ written (asked call.now)) }
-{
-    format!(in heap; "{call}")
-}
-
 // Prints the call. Reading what is printed gives the call back.
 pub fn print_call(heap: Global, call: &Call) -> Result<String, AllocError>
-    ensures text { IfOk result (λ s. string_bytes s ≡ call_text call.now) }
-    ensures written { IfOk result (λ s. Whole call.now → string_bytes s ≡ written (asked call.now)) }
+    ensures { IfOk result (λ s. string_bytes s ≡ written (asked call.now)) }
 {
-    printed(heap, call)
+    format!(in heap; "{call}")
 }

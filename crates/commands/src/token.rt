@@ -1,15 +1,15 @@
 // The tokens of a line, which borrow the line.
-ghost use Rattle.std.specs.Prelude.{◌≡◌, ℕ, ◌<◌, ◌≤◌, length, drop, IfSome, IfNone};
+ghost use Rattle.std.specs.Prelude.{◌≡◌, ◌≤◌, length, IfNone};
 ghost use Rattle.std.specs.Option.{option_map};
-ghost use Rattle.commands.specs.Grammar.{letter};
-ghost use Rattle.commands.specs.Values.{values, Listing};
+ghost use Rattle.std.specs.Iterator.{at_most};
+ghost use Rattle.commands.specs.Values.{values};
 ghost use Rattle.commands.specs.Elements.{elements, list_in};
-ghost use Rattle.commands.specs.Tokens.{part, run, cut, cut_opened, Taken, Whole};
+ghost use Rattle.commands.specs.Tokens.{part, run, cut, cut_opened, Taken};
 
 pub mod reader;
 
 use crate::list::ByteList;
-use crate::{is_digit, numeral};
+use crate::{numeral, tail};
 
 // A part of a line: a bracket, a space or an item.
 #[derive(Clone, Copy)]
@@ -22,115 +22,75 @@ pub enum Token<'a> {
     List(ByteList<'a>),
 }
 
-// Whether the byte is a small letter.
-fn is_letter(b: u8) -> bool
-    ensures { result ≡ letter b }
-{
-    97 <= b && b <= 122
-}
-
 // How many letters stand at the front of the text.
-fn word_len(s: &[u8]) -> usize
-    ensures value { result ≡ run s.now }
-    ensures inside { result ≤ length s.now }
+fn word_len(text: &[u8]) -> usize
+    ensures value { result ≡ run text.now }
+    ensures inside { result ≤ length text.now }
 {
-    let mut n = 0;
-    while n < s.len() && is_letter(s[n]) {
-        n += 1;
-    }
-    n
+    text.iter().take_while(|b| b.is_ascii_lowercase()).count()
 }
 
-// Where the closing bracket stands of the list that begins the text, if that has a number.
-fn list_end(s: &[u8]) -> Option<usize>
-    ensures value { option_map (λ n. drop n s.now) result ≡ elements (length s.now) s.now }
-    ensures inside { IfSome result (λ n. n < length s.now) }
+// The text from the closing bracket on of the list that begins the text, if that has a number.
+fn list_end(text: &[u8]) -> Option<&[u8]>
+    ensures { option_map (λ r. r.now) result ≡ elements (length text.now) text.now }
 {
-    let mut at = 0;
-    for _turn in 0..s.len() {
-        let Some((_, width)) = numeral(&s[at..], 255) else {
-            return None;
-        };
-        at += width;
-        if at == s.len() {
-            return None;
+    let mut rest = text;
+    // Each turn takes a byte at least, so there are no more turns than bytes.
+    for _turn in 0..text.len() {
+        let (_, after) = numeral(rest, 255)?;
+        match after {
+            [b')', ..] => return Some(after),
+            [b' ', more @ ..] => rest = more,
+            _ => return None,
         }
-        if s[at] == b')' {
-            return Some(at);
-        }
-        if s[at] != b' ' {
-            return None;
-        }
-        at += 1;
     }
     None
 }
 
-// The list whose opening bracket stands before the text, and how long it is with its closing bracket.
-fn list_in(s: &[u8]) -> Option<(ByteList<'_>, usize)>
-    ensures value { option_map (λ p. (values p.0.text.now, drop p.1 s.now)) result ≡ list_in s.now }
-    ensures inside { IfSome result (λ p. p.1 ≤ length s.now) }
-    ensures whole { IfSome result (λ p. Listing p.0.text.now) }
+// The list whose opening bracket stands before the text, and what follows its closing bracket.
+fn list_in(text: &[u8]) -> Option<(ByteList<'_>, &[u8])>
+    ensures { option_map (λ p. (values p.0.text.now, p.1.now)) result ≡ list_in text.now }
 {
-    if s.is_empty() {
-        return None;
+    if let [b')', rest @ ..] = text {
+        let list = ByteList { text: &text[..0] };
+        return Some((list, rest));
     }
-    if s[0] == b')' {
-        let text = &s[0..0];
-        return Some((ByteList { text }, 1));
-    }
-    let at = list_end(s)?;
-    let text = &s[0..at];
-    Some((ByteList { text }, at + 1))
+    let end = list_end(text)?;
+    let list = ByteList {
+        text: &text[..text.len() - end.len()],
+    };
+    Some((list, tail(end)))
 }
 
-// The bracket or the list at the front of a line whose first bracket stands before the text, and how many bytes of the text it takes.
-fn opened(s: &[u8]) -> Option<(Token<'_>, usize)>
-    ensures value { option_map (λ p. (part p.0, drop p.1 s.now)) result ≡ cut_opened s.now }
-    ensures inside { IfSome result (λ p. p.1 ≤ length s.now) }
-    ensures whole { IfSome result (λ p. Whole p.0) }
+// The bracket or the list at the front of a line whose first bracket stands before the text, and what follows it.
+fn opened(text: &[u8]) -> Option<(Token<'_>, &[u8])>
+    ensures { option_map (λ p. (part p.0, p.1.now)) result ≡ cut_opened text.now }
 {
-    if s.is_empty() {
-        return None;
+    if let [b'a'..=b'z', ..] = text {
+        return Some((Token::Open, text));
     }
-    if is_letter(s[0]) {
-        return Some((Token::Open, 0));
-    }
-    let (list, n) = list_in(s)?;
-    Some((Token::List(list), n))
+    let (list, rest) = list_in(text)?;
+    Some((Token::List(list), rest))
 }
 
-// The token at the front of the line, and how long it is.
-fn first_token(line: &[u8]) -> Option<(Token<'_>, usize)>
-    ensures value { option_map (λ p. (part p.0, drop p.1 line.now)) result ≡ cut line.now }
-    ensures inside { IfSome result (λ p. p.1 ≤ length line.now) }
-    ensures whole { IfSome result (λ p. Whole p.0) }
+// The token at the front of the line, and what follows it.
+fn first_token(line: &[u8]) -> Option<(Token<'_>, &[u8])>
+    ensures { option_map (λ p. (part p.0, p.1.now)) result ≡ cut line.now }
 {
-    if line.is_empty() {
-        return None;
+    match line {
+        [b' ', rest @ ..] => Some((Token::Space, rest)),
+        [b')', rest @ ..] => Some((Token::Close, rest)),
+        [b'(', rest @ ..] => opened(rest),
+        [b'0'..=b'9', ..] => {
+            let (n, rest) = numeral(line, u32::MAX)?;
+            Some((Token::Number(n), rest))
+        }
+        [b'a'..=b'z', ..] => {
+            let (word, rest) = line.split_at(word_len(line));
+            Some((Token::Word(word), rest))
+        }
+        _ => None,
     }
-    let first = line[0];
-    if first == b' ' {
-        return Some((Token::Space, 1));
-    }
-    if first == b')' {
-        return Some((Token::Close, 1));
-    }
-    if first == b'(' {
-        let Some((found, n)) = opened(&line[1..]) else {
-            return None;
-        };
-        return Some((found, n + 1));
-    }
-    if is_digit(first) {
-        let (n, width) = numeral(line, 4294967295)?;
-        return Some((Token::Number(n), width));
-    }
-    let n = word_len(line);
-    if n == 0 {
-        return None;
-    }
-    Some((Token::Word(&line[0..n]), n))
 }
 
 // A line from where it is not yet cut into tokens.
@@ -147,31 +107,26 @@ impl<'a> Lexer<'a> {
         Lexer { rest: line }
     }
 
+    // The next token, cut off the line.
     fn advance(&mut self) -> Option<Token<'a>>
         ensures value { option_map (λ t. (part t, self.new.rest.now)) result ≡ cut self.old.rest.now }
         ensures stays { IfNone result (self.new.rest.now ≡ self.old.rest.now) }
-        ensures whole { IfSome result Whole }
     {
-        let rest = self.rest;
-        let Some((found, n)) = first_token(rest) else {
-            return None;
-        };
-        self.rest = &rest[n..];
+        let (found, rest) = first_token(self.rest)?;
+        self.rest = rest;
         Some(found)
     }
+}
 
-    fn take(&mut self) -> Option<Token<'a>>
-        ensures taken { Taken self.old.rest.now (option_map part result) self.new.rest.now }
-        ensures whole { IfSome result Whole }
-    {
-        self.advance()
-    }
+impl<'a> Iterator for Lexer<'a> {
+    type Item = Token<'a>;
+
+    ghost next_gives = { λ s r t. Taken s.rest.now (option_map part r) t.rest.now };
+
+    ghost remaining = { λ s. at_most (length s.rest.now) };
 
     // Cuts the next token off the line: the part that the line begins with, and none where it begins with none.
-    pub fn next(&mut self) -> Option<Token<'a>>
-        ensures taken { Taken self.old.rest.now (option_map part result) self.new.rest.now }
-        ensures whole { IfSome result Whole }
-    {
-        self.take()
+    fn next(&mut self) -> Option<Token<'a>> {
+        self.advance()
     }
 }

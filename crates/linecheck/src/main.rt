@@ -10,13 +10,10 @@ use std::io;
 use std::io::{BufReader, BufWriter, Read, Write};
 
 // Prints the bytes of a list, one by one.
-fn print_bytes<W: Write>(out: &mut W, mut list: ByteList) -> io::Result<()> {
+fn print_bytes<W: Write>(out: &mut W, list: ByteList) -> io::Result<()> {
     let count = list.len();
     write!(out, " fills {count}:")?;
-    for _ in 0..count {
-        let Some(b) = list.next() else {
-            break;
-        };
+    for b in list {
         write!(out, " {b}")?;
     }
     Ok(())
@@ -40,35 +37,28 @@ fn print_line<W: Write>(out: &mut W, number: u64, line: &[u8]) -> io::Result<()>
 }
 
 fn main(rt: HostRuntime) -> io::Result<()> {
-    let mut input = BufReader::new(rt.alloc(), rt.stdin())?;
+    let input = BufReader::new(rt.alloc(), rt.stdin())?;
     let mut out = BufWriter::new(rt.alloc(), rt.stdout())?;
     let mut line = LineBuffer::new();
-    let mut byte = [0u8; 1];
     let mut number = 1u64;
-    let mut begun = false;
-    for _ in 0..u64::MAX {
-        if input.read(&mut byte)? == 0 {
-            break;
-        }
-        if byte[0] == b'\n' {
-            print_line(&mut out, number, line.line())?;
-            line.clear();
-            number = number.saturating_add(1);
-            begun = false;
-        } else {
-            line.push(byte[0]);
-            begun = true;
+    for byte in input.bytes() {
+        match byte? {
+            b'\n' => {
+                print_line(&mut out, number, line.line())?;
+                line.clear();
+                number = number.saturating_add(1);
+            }
+            byte => line.push(byte),
         }
     }
-    if begun {
+    if !line.line().is_empty() {
         print_line(&mut out, number, line.line())?;
         number = number.saturating_add(1);
     }
     let lines = [number.saturating_sub(1)];
     let last = Answer {
         line: number,
-        granted: true,
-        items: &lines,
+        outcome: Ok(&lines),
     };
     writeln!(out, "{last}")?;
     out.flush()
