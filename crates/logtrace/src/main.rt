@@ -88,21 +88,11 @@ fn held<D: Drop>(rt: &HostRuntime, drive: Result<D, MakeFault>) -> io::Result<Op
     }
 }
 
-// A drive that makes nothing safe before a flush.
-fn buffered(rt: &HostRuntime, slots: u32) -> io::Result<Option<BufferedDrive>> {
-    held(rt, BufferedDrive::new(rt.alloc(), slots))
-}
-
-// A drive that makes each write safe at once.
-fn direct(rt: &HostRuntime, slots: u32) -> io::Result<Option<DirectDrive>> {
-    held(rt, DirectDrive::new(rt.alloc(), slots))
-}
-
 // Two whole writes, and a drive of zeros.
 fn whole(rt: &HostRuntime) -> io::Result<()> {
     println!(rt; "whole")?;
     let mut found = Found::with_room(rt.alloc(), 16)?;
-    let Some(mut drive) = buffered(rt, 16)? else {
+    let Some(mut drive) = held(rt, BufferedDrive::new(rt.alloc(), 16))? else {
         return Ok(());
     };
     show(rt, &drive, 8, 0, 16, &mut found)?;
@@ -118,7 +108,7 @@ fn whole(rt: &HostRuntime) -> io::Result<()> {
 fn torn(rt: &HostRuntime) -> io::Result<()> {
     println!(rt; "torn")?;
     let mut found = Found::with_room(rt.alloc(), 16)?;
-    let Some(mut drive) = buffered(rt, 4)? else {
+    let Some(mut drive) = held(rt, BufferedDrive::new(rt.alloc(), 4))? else {
         return Ok(());
     };
     put(rt, &mut drive, 0, 2, 1024)?;
@@ -133,7 +123,7 @@ fn torn(rt: &HostRuntime) -> io::Result<()> {
 fn limits(rt: &HostRuntime) -> io::Result<()> {
     println!(rt; "limits")?;
     let mut found = Found::with_room(rt.alloc(), 4)?;
-    let Some(mut drive) = buffered(rt, 16)? else {
+    let Some(mut drive) = held(rt, BufferedDrive::new(rt.alloc(), 16))? else {
         return Ok(());
     };
     put(rt, &mut drive, 0, 2, 1024)?;
@@ -168,7 +158,7 @@ fn head(number: u64, address: u32, index: u16, count: u16) -> Head {
 fn disagreeing(rt: &HostRuntime) -> io::Result<()> {
     println!(rt; "disagreeing")?;
     let mut found = Found::with_room(rt.alloc(), 16)?;
-    let Some(mut drive) = buffered(rt, 16)? else {
+    let Some(mut drive) = held(rt, BufferedDrive::new(rt.alloc(), 16))? else {
         return Ok(());
     };
     let heads = [
@@ -191,7 +181,7 @@ fn disagreeing(rt: &HostRuntime) -> io::Result<()> {
 fn stale(rt: &HostRuntime) -> io::Result<()> {
     println!(rt; "stale")?;
     let mut found = Found::with_room(rt.alloc(), 4)?;
-    let Some(mut drive) = buffered(rt, 4)? else {
+    let Some(mut drive) = held(rt, BufferedDrive::new(rt.alloc(), 4))? else {
         return Ok(());
     };
     put(rt, &mut drive, 0, 0, 1024)?;
@@ -207,7 +197,7 @@ fn stale(rt: &HostRuntime) -> io::Result<()> {
 fn wrapped(rt: &HostRuntime) -> io::Result<()> {
     println!(rt; "wrapped")?;
     let mut found = Found::with_room(rt.alloc(), 3)?;
-    let Some(mut drive) = buffered(rt, 3)? else {
+    let Some(mut drive) = held(rt, BufferedDrive::new(rt.alloc(), 3))? else {
         return Ok(());
     };
     put(rt, &mut drive, 5, 1, 1024)?;
@@ -225,7 +215,7 @@ fn refusals(rt: &HostRuntime) -> io::Result<()> {
         Ok(_) => println!(rt; "  a drive of none")?,
         Err(fault) => println!(rt; "  no {}", u32::from(fault))?,
     }
-    let Some(mut drive) = direct(rt, 4)? else {
+    let Some(mut drive) = held(rt, DirectDrive::new(rt.alloc(), 4))? else {
         return Ok(());
     };
     peek(rt, &drive, 3)?;
@@ -264,12 +254,12 @@ fn cut_one<D: Drive>(rt: &HostRuntime, drive: &mut D, found: &mut Found) -> io::
 // The same on both drives.
 fn cuts(rt: &HostRuntime) -> io::Result<()> {
     let mut found = Found::with_room(rt.alloc(), 8)?;
-    let Some(mut behind) = buffered(rt, 8)? else {
+    let Some(mut behind) = held(rt, BufferedDrive::new(rt.alloc(), 8))? else {
         return Ok(());
     };
     println!(rt; "a buffered drive")?;
     cut_one(rt, &mut behind, &mut found)?;
-    let Some(mut through) = direct(rt, 8)? else {
+    let Some(mut through) = held(rt, DirectDrive::new(rt.alloc(), 8))? else {
         return Ok(());
     };
     println!(rt; "a direct drive")?;
@@ -279,7 +269,7 @@ fn cuts(rt: &HostRuntime) -> io::Result<()> {
 // Only the records of a run are left.
 fn wipes(rt: &HostRuntime) -> io::Result<()> {
     println!(rt; "wiped")?;
-    let Some(mut drive) = buffered(rt, 4)? else {
+    let Some(mut drive) = held(rt, BufferedDrive::new(rt.alloc(), 4))? else {
         return Ok(());
     };
     put(rt, &mut drive, 0, 0, 2048)?;
