@@ -15,12 +15,15 @@ pub struct ByteList<'a> {
 }
 
 impl<'a> ByteList<'a> {
-    // How many bytes the list has.
+    // How many bytes the list has: one more than its spaces, so none is read.
     pub fn len(&self) -> usize
         ensures { result ≡ length (values self.now.text.now) }
     {
-        let list = *self;
-        list.count()
+        if self.text.is_empty() {
+            return 0;
+        }
+        let spaces = self.text.iter().filter(|b| **b == b' ').count();
+        spaces + 1
     }
 
     // The first byte, and the list of the others.
