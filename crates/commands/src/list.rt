@@ -10,8 +10,8 @@ use crate::{numeral, tail};
 #[derive(Clone, Copy)]
 pub struct ByteList<'a> {
     pub(crate) text: &'a [u8],
-    ghost listing: { Listing text.now },
-    ghost small: { bytes_only (values text.now) ≡ true },
+    pub ghost listing: { Listing text.now },
+    pub ghost small: { bytes_only (values text.now) ≡ true },
 }
 
 impl<'a> ByteList<'a> {
