@@ -10,17 +10,20 @@ use crate::{numeral, tail};
 #[derive(Clone, Copy)]
 pub struct ByteList<'a> {
     pub(crate) text: &'a [u8],
-    ghost listing: { Listing text.now },
-    ghost small: { bytes_only (values text.now) ≡ true },
+    pub ghost listing: { Listing text.now },
+    pub ghost small: { bytes_only (values text.now) ≡ true },
 }
 
 impl<'a> ByteList<'a> {
-    // How many bytes the list has.
+    // How many bytes the list has: one more than its spaces, so none is read.
     pub fn len(&self) -> usize
         ensures { result ≡ length (values self.now.text.now) }
     {
-        let list = *self;
-        list.count()
+        if self.text.is_empty() {
+            return 0;
+        }
+        let spaces = self.text.iter().filter(|b| **b == b' ').count();
+        spaces + 1
     }
 
     // The first byte, and the list of the others.
