@@ -15,14 +15,19 @@ pub struct ByteList<'a> {
 }
 
 impl<'a> ByteList<'a> {
-    // How many bytes the list has: one more than its spaces, so none is read.
+    // How many bytes the list has: one more than its spaces, so none is read. A loop, since the count of a filter takes twice its instructions.
     pub fn len(&self) -> usize
         ensures { result ≡ length (values self.now.text.now) }
     {
         if self.text.is_empty() {
             return 0;
         }
-        let spaces = self.text.iter().filter(|b| **b == b' ').count();
+        let mut spaces = 0;
+        for b in self.text {
+            if *b == b' ' {
+                spaces += 1;
+            }
+        }
         spaces + 1
     }
 
