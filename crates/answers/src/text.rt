@@ -14,12 +14,18 @@ const ITEM_BYTES: usize = 21;
 const FRAME_BYTES: usize = 25;
 
 // Puts a number in decimal after the bytes of `out`, which has the room.
+#[tactic(auto, using(std::proofs::lemmas::Fmt::decimal_digit))]
 fn put_number(out: &mut Vec<u8>, n: u64)
     requires { vec_len out.old + 20 ≤ vec_capacity out.old }
     ensures items { out.new.items ≡ out.old.items ++ decimal n }
     ensures len { vec_len out.new ≤ vec_len out.old + 20 }
     ensures capacity { vec_capacity out.old ≤ vec_capacity out.new }
 {
+    // One digit, which most numbers of answers have, is put without the buffer.
+    if n < 10 {
+        out.push_reserved(b'0' + n as u8);
+        return;
+    }
     let mut digits = Buffer::new();
     // There is room, so this cannot fail.
     let _ = out.extend_from_slice(digits.format(n).as_bytes());

@@ -1,5 +1,6 @@
 -- Lists of bytes: reading one finds the list that is written. Assumes nothing.
 use Rattle.std.proofs.Common.{◌≡◌, ℕ, zero, suc, ◌+◌, ◌-◌, ◌*◌, ◌%◌, ◌^◌, ◌<◌, ◌≤◌, Bool, true, false, cond, eqb, ltb, List, [], ◌∷◌, ◌++◌, map, length, get_or, take, drop, Some, None, decimal, Option, sym, refl, ap, ◌∙◌, subst, append_assoc, arith}
+use Rattle.std.specs.List.{filter}
 use Rattle.std.specs.Option.{option_map, option_and_then}
 use Rattle.std.proofs.lemmas.List.{length-append, take_at}
 use Rattle.std.proofs.lemmas.Fmt.{decimal_nonempty, decimal_by_steps}
@@ -169,7 +170,7 @@ list_is s vs r e = empty (eqb (get_or s 0 0) 41) refl e where
       (head_rest s 41 (omega arith) (eqb-true _ _ h) ∙ ap (λ l. 41 ∷ l) x.1 ∙ ap (λ l. listed l (41 ∷ r)) x.0, ap bytes_only (sym x.0))
   empty false h f = many (elements (length s) s) refl f
 
-pub long_listed : (vs r : List ℕ) → bytes_only vs ≡ true → length vs ≤ length (listed vs r)
+long_listed : (vs r : List ℕ) → bytes_only vs ≡ true → length vs ≤ length (listed vs r)
 long_listed [] r e = omega arith
 long_listed (b ∷ bs) r e = spaces b bs (bytes_first b bs e) (bytes_rest b bs e) where
   spaces : (b : ℕ) (bs : List ℕ) → b ≤ 255 → bytes_only bs ≡ true → length (b ∷ bs) ≤ length (decimal b ++ spaced (map decimal bs) r)
@@ -198,6 +199,28 @@ list_back (b ∷ bs) r e =
         let whole = listed_end vs end in
         let long : length (listed vs end) - length end ≡ length (listed vs []) = omega (arith, ap length whole, length-append (listed vs []) end) in
         ap (λ k. take k (listed vs end)) long ∙ ap (take (length (listed vs []))) whole ∙ take_at (listed vs []) end _ refl
+
+-- a list has one space less than numbers
+abbrev spaces : List ℕ → List ℕ
+spaces = filter (λ b. eqb b 32)
+
+space_none : (c : ℕ) (s : List ℕ) → (c ≡ 32 → ⊥) → spaces (c ∷ s) ≡ spaces s
+space_none c s h = ap (λ x. cond x (c ∷ spaces s) (spaces s)) (ne_eqb c 32 h)
+
+spaces_number : (b : ℕ) → b ≤ 255 → (s : List ℕ) → spaces (decimal b ++ s) ≡ spaces s
+spaces_number b h s = reads_decimal spaces (λ _. spaces) 255 (omega arith) (λ d r q. space_none (48 + d) r (λ e. omega arith)) (λ n d r _ q _. space_none (48 + d) r (λ e. omega arith)) b h s
+
+spaces_spaced : (bs : List ℕ) → bytes_only bs ≡ true → length (spaces (spaced (map decimal bs) [])) ≡ length bs
+spaces_spaced [] e = refl
+spaces_spaced (b ∷ bs) e = ap (λ l. suc (length l)) (spaces_number b (bytes_first b bs e) (spaced (map decimal bs) [])) ∙ ap suc (spaces_spaced bs (bytes_rest b bs e))
+
+pub spaces_listed : (s : List ℕ) → Listing s → bytes_only (values s) ≡ true → 0 < length s → length (filter (λ b. eqb b 32) s) + 1 ≡ length (values s)
+spaces_listed s l e h = go (values s) l e where
+  go : (vs : List ℕ) → s ≡ listed vs [] → bytes_only vs ≡ true → length (spaces s) + 1 ≡ length vs
+  go [] q f = absurd (omega (arith, h, ap length q))
+  go (b ∷ bs) q f =
+      let r = spaces_number b (bytes_first b bs f) (spaced (map decimal bs) []) in
+      omega (arith, ap (λ t. length (spaces t)) q, ap length r, spaces_spaced bs (bytes_rest b bs f))
 
 -- the first byte of a list, and the list of the others
 pub record First (s : List ℕ) (b : ℕ) (t : List ℕ) : Type 0 where

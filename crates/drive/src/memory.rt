@@ -55,6 +55,23 @@ impl Area {
     {
         self.slots.fill([0; SLOT_BYTES]);
     }
+
+    // Takes over every slot of another area.
+    fn copy(&mut self, from: &Area)
+        requires { length self.old.slots.items ≡ length from.now.slots.items }
+        ensures { self.new.slots.items ≡ from.now.slots.items }
+    {
+        self.slots.copy_from_slice(&from.slots);
+    }
+
+    // Takes over the slots of another area whose bit is 1.
+    fn keep(&mut self, from: &Area, kept: u64)
+        requires { length self.old.slots.items ≡ length from.now.slots.items }
+        ensures even { length self.new.slots.items ≡ length from.now.slots.items }
+        ensures mix { self.new.slots.items ≡ mixed (bit kept) from.now.slots.items self.old.slots.items }
+    {
+        take_over(&mut self.slots, &from.slots, kept);
+    }
 }
 
 // Copies a slot over another, its front last: the copy of the rest is then joined with the one that put it into `from`.

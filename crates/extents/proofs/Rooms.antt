@@ -31,8 +31,18 @@ module _ {T : Type 0} {adv : T → ℕ → T} {same : T → T → Bool} {fits : 
 pub sound_seen : {T : Type 0} {adv : T → ℕ → T} {same : T → T → Bool} {fits : T → Bool} {cap : ℕ} {v w : Mapped T} → v ≡ w → Sound adv same fits v.blocks v.extents cap → Sound adv same fits w.blocks w.extents cap
 sound_seen {T} {adv} {same} {fits} {cap} e s = subst (λ (x : Mapped T). Sound adv same fits x.blocks x.extents cap) e s
 
+-- more room is room (the edit `insert_refused_grows` cites it, so that it is refused for its refusal alone)
+pub roomier : {T : Type 0} {adv : T → ℕ → T} {same : T → T → Bool} {fits : T → Bool} {n cap wide : ℕ} {xs : List (Extent T)} → Sound adv same fits n xs cap → cap ≤ wide → Sound adv same fits n xs wide
+roomier s l = record { table = s.table; range = s.range; width = s.width; room = omega (arith, s.room, l) }
+
 -- what holds of a map's extents
 module _ {T : Type 0} {adv : T → ℕ → T} {same : T → T → Bool} {fits : T → Bool} {n cap : ℕ} {xs : List (Extent T)} (s : Sound adv same fits n xs cap) where
+  pub sound_table : is_table adv same xs ≡ true
+  sound_table = s.table
+
+  pub sound_range : all_in_range adv fits n xs ≡ true
+  sound_range = s.range
+
   pub sound_widest : all_in_range adv fits (2 ^ 32 - 1) xs ≡ true
   sound_widest = widest adv fits n xs s.width s.range
 

@@ -1,14 +1,14 @@
 -- What a drop keeps. Assumes nothing.
-use Rattle.std.proofs.Common.{◌≡◌, ℕ, ◌+◌, ◌-◌, ◌<◌, ◌≤◌, Bool, true, cond, ltb, List, [], ◌∷◌, ◌++◌, Some, None, sym, refl, ap, ◌∙◌, subst, ⊎_elim, arith}
-use Rattle.std.proofs.lemmas.Bool.{and_parts, cond-true, cond-false, cases_lt, lt-ltb, le-ltb}
-use Rattle.std.specs.List.Retain.{RetainsInTurn}
+use Rattle.std.proofs.Common.{◌≡◌, ℕ, ◌+◌, ◌-◌, ◌<◌, ◌≤◌, Bool, true, cond, ltb, List, [], ◌∷◌, ◌++◌, length, get_or, take, drop, set, Some, None, Option, sym, refl, ap, ◌∙◌, subst, ⊎_elim, arith}
+use Rattle.std.proofs.lemmas.Bool.{cond-true, cond-false, cases_lt, lt-ltb, le-ltb}
+use Rattle.std.proofs.lemmas.List.{get_or-drop, drop-drop, drop-set-lt, take_more_set, append_assoc}
 use Rattle.extents.specs.declared.extent.Extent.{Extent}
 use Rattle.extents.specs.Laws.{Laws}
 use Rattle.extents.specs.Order.{unless_below}
-use Rattle.extents.specs.Map.{end, target_at, is_table, in_range, all_in_range}
+use Rattle.extents.specs.Map.{end, target_at, is_table, all_in_range}
 use Rattle.extents.specs.Steps.{without, listed, kept_of, sieved}
 use Rattle.extents.proofs.Tables.{Next, Table, From, Ranged, from_weaker, from_next, inside, before, beyond, none_before, gap_next, onward, trim_next, table, table_test, ranged, ranged_test}
-use Rattle.extents.proofs.Insertion.{cond_append}
+use Rattle.extents.proofs.Reach.{entry_is, range_drop}
 
 module _ {T : Type 0} {adv : T → ℕ → T} {same : T → T → Bool} {fits : T → Bool} (laws : Laws adv same fits) (short : T → ℕ) where
   abbrev kept : List (Extent T) → List (Extent T)
@@ -106,15 +106,31 @@ module _ {T : Type 0} {adv : T → ℕ → T} {same : T → T → Bool} {fits : 
       pub dropped_target : (b : ℕ) → target_at adv new b ≡ unless_below below u (target_at adv xs b)
       dropped_target b = ap (λ zs. target_at adv zs b) is ∙ kept_target xs b (table laws xs t)
 
--- a `retain_mut` whose closure keeps of an extent what it has from the limit on
-module _ {T : Type 0} (adv : T → ℕ → T) (fits : T → Bool) (short : T → ℕ) {F : Type 0} (R : F → Extent T → Bool → F → Extent T → Type 0) (f : F) (n : ℕ) (one : (x : Extent T) (b : Bool) (f' : F) (y : Extent T) → R f x b f' y → (f' ≡ f) × (in_range adv fits n x ≡ true → cond b (y ∷ []) [] ≡ listed (kept_of adv short x))) where
-  pub retained : (xs ys : List (Extent T)) → all_in_range adv fits n xs ≡ true → RetainsInTurn R f xs ys → ys ≡ sieved adv short xs
-  retained [] ys r t = t
-  retained (x ∷ xs) ys r t =
-      let p = and_parts (in_range adv fits n x) _ r in
-      let o = one x t.0 t.1 t.2 t.3 in
-      let rest = retained xs t.4 p.1 (subst (λ (g : F). RetainsInTurn R g xs t.4) o.0 t.5) in
-      t.6
-      ∙ cond_append t.0 (t.2 ∷ []) [] t.4
-      ∙ ap (λ l. l ++ t.4) (o.1 p.0)
-      ∙ ap (λ l. listed (kept_of adv short x) ++ l) rest
+-- a turn of the loop: what is left is as it was, and what was read is kept or not
+module _ {T : Type 0} (adv : T → ℕ → T) (short : T → ℕ) (s s₀ : List (Extent T)) (i to : ℕ) (x : Extent T) (len : length s ≡ length s₀) (l : i < length s₀) (q : drop i s ≡ drop i s₀) (h : x ≡ get_or s i x) where
+  pub read_before : x ≡ get_or s₀ i x
+  read_before =
+      let z : i + 0 ≡ i = omega arith in
+      h ∙ ap (λ k. get_or s k x) (sym z) ∙ sym (get_or-drop i s 0 x) ∙ ap (λ m. get_or m 0 x) q ∙ get_or-drop i s₀ 0 x ∙ ap (λ k. get_or s₀ k x) z
+
+  pub read_range : (fits : T → Bool) (n : ℕ) → all_in_range adv fits n s₀ ≡ true → Ranged adv fits n (x ∷ drop (i + 1) s₀)
+  read_range fits n r = subst (Ranged adv fits n) (entry_is s₀ i x l read_before) (range_drop adv fits n i s₀ (ranged adv fits n s₀ r))
+
+  rest_same : drop (i + 1) s ≡ drop (i + 1) s₀
+  rest_same = sym (drop-drop 1 i s) ∙ ap (drop 1) q ∙ drop-drop 1 i s₀
+
+  module _ (o : Option (Extent T)) (k : o ≡ kept_of adv short x) (w : to ≤ i) (inv : take to s ++ sieved adv short (drop i s₀) ≡ sieved adv short s₀) where
+    left_over : take to s ++ (listed o ++ sieved adv short (drop (i + 1) s₀)) ≡ sieved adv short s₀
+    left_over = ap (λ p. take to s ++ (listed p ++ sieved adv short (drop (i + 1) s₀))) k ∙ ap (λ m. take to s ++ sieved adv short m) (sym (entry_is s₀ i x l read_before)) ∙ inv
+
+    pub turn_none : o ≡ None → (drop (i + 1) s ≡ drop (i + 1) s₀) × (take to s ++ sieved adv short (drop (i + 1) s₀) ≡ sieved adv short s₀)
+    turn_none n = (rest_same, ap (λ p. take to s ++ (listed p ++ sieved adv short (drop (i + 1) s₀))) (sym n) ∙ left_over)
+
+    pub turn_some : (y : Extent T) → o ≡ Some y → (drop (i + 1) (set s to y) ≡ drop (i + 1) s₀) × (take (to + 1) (set s to y) ++ sieved adv short (drop (i + 1) s₀) ≡ sieved adv short s₀)
+    turn_some y n = (
+      drop-set-lt (i + 1) s to y (omega arith) ∙ rest_same,
+      ap (λ m. m ++ sieved adv short (drop (i + 1) s₀)) (take_more_set s to y (omega arith))
+          ∙ append_assoc (take to s) (y ∷ []) _
+          ∙ ap (λ p. take to s ++ (listed p ++ sieved adv short (drop (i + 1) s₀))) (sym n)
+          ∙ left_over,
+    )

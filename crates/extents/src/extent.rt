@@ -50,31 +50,21 @@ impl<T: Target> Extent<T> {
 
 impl<T: Ordered> Extent<T> {
     // What the extent has from the target `limit` on.
-    fn from_target(self, limit: T) -> Option<Extent<T>>
-        ensures { in_range T.Target.advanced T.Target.fits (2 ^ 32 - 1) self ≡ true → result ≡ kept_of T.Target.advanced (λ t. T.short t limit) self }
+    pub(crate) fn from_target(self, limit: T) -> Option<Extent<T>>
+        requires ends { end self < 2 ^ 32 }
+        requires fits { T.short self.target limit < self.length → T.Target.fits (T.Target.advanced self.target (T.short self.target limit)) ≡ true }
+        ensures { result ≡ kept_of T.Target.advanced (λ t. T.short t limit) self }
     {
-        let short = u32::try_from(self.target.short_of(limit)).ok()?;
-        if short < self.length {
+        let short = self.target.short_of(limit);
+        if short < u64::from(self.length) {
+            let short = short as u32;
             Some(Extent {
-                first: self.first.checked_add(short)?,
+                first: self.first + short,
                 length: self.length - short,
-                target: self.target.advance(short)?,
+                target: self.target.advance(short).unwrap(),
             })
         } else {
             None
-        }
-    }
-
-    // Leaves of the extent what it has from the target `limit` on, and answers whether that is anything.
-    pub(crate) fn trim(&mut self, limit: T) -> bool
-        ensures { in_range T.Target.advanced T.Target.fits (2 ^ 32 - 1) self.old ≡ true → cond result (self.new ∷ []) [] ≡ listed (kept_of T.Target.advanced (λ t. T.short t limit) self.old) }
-    {
-        match self.from_target(limit) {
-            Some(rest) => {
-                *self = rest;
-                true
-            }
-            None => false,
         }
     }
 }

@@ -1,12 +1,12 @@
 // The steps that a map's calls are made of: joining and cutting extents, and putting some in the place of others.
-ghost use Rattle.std.specs.Prelude.{◌≡◌, ℕ, ◌+◌, ◌-◌, ◌^◌, ◌<◌, ◌≤◌, true, [], ◌∷◌, ◌++◌, length, drop, vec_items, vec_capacity};
+ghost use Rattle.std.specs.Prelude.{◌≡◌, ℕ, ◌+◌, ◌-◌, ◌^◌, ◌<◌, ◌≤◌, true, [], ◌∷◌, ◌++◌, length, take, drop, vec_items, vec_capacity};
 ghost use Rattle.std.specs.List.{splice};
 ghost use Rattle.std.proofs.Math.Seq.{paste};
-ghost use Rattle.extents.specs.Map.{end};
-ghost use Rattle.extents.specs.Steps.{joined, joined_onto, right_of, listed, EndsInWidth};
+ghost use Rattle.extents.specs.Map.{end, all_in_range};
+ghost use Rattle.extents.specs.Steps.{joined, joined_onto, right_of, listed, EndsInWidth, sieved};
 
 use crate::extent::Extent;
-use crate::target::Target;
+use crate::target::{Ordered, Target};
 
 mod map;
 
@@ -114,4 +114,20 @@ fn replace<X: Copy>(
     write_held(s, at + 1, second);
     write_held(s, next, third);
     v.truncate(rest + (count - upto));
+}
+
+// Leaves at the front what each extent has from the target `limit` on, and answers how many extents that are.
+// The loop counts by hand: `Vec::retain_mut` takes up to twice the time.
+fn sieve<T: Ordered>(s: &mut [Extent<T>], limit: T) -> usize
+    requires { all_in_range T.Target.advanced T.Target.fits (2 ^ 32 - 1) s.old ≡ true }
+    ensures { take result s.new ≡ sieved T.Target.advanced (λ t. T.short t limit) s.old }
+{
+    let mut to = 0;
+    for i in 0..s.len() {
+        if let Some(e) = s[i].from_target(limit) {
+            s[to] = e;
+            to += 1;
+        }
+    }
+    to
 }

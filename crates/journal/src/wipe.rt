@@ -16,13 +16,12 @@ fn belongs_in(number: u64, slots: u32, run: &Range<u64>, slot: u32) -> bool
 }
 
 // Zeroes one slot, unless it holds a record of the run.
-fn wipe_slot<D: Drive>(drive: &mut D, slot: u32, run: &Range<u64>)
+fn wipe_slot<D: Drive>(drive: &mut D, slot: u32, run: &Range<u64>, buffer: &mut [u8; SLOT_BYTES])
     requires { slot < slot_count (D.meaning drive.old) }
     ensures { MatchBool (holds_one (D.meaning drive.old).current run.now.start run.now.end slot) (D.meaning drive.new ≡ D.meaning drive.old) (Wrote (D.meaning drive.old) slot zero_slot (D.meaning drive.new)) }
 {
-    let mut bytes = [0; SLOT_BYTES];
-    let _ = drive.read(slot, &mut bytes);
-    let head = Head::read_from(&bytes);
+    let _ = drive.read(slot, buffer);
+    let head = Head::read_from(buffer);
     if !belongs_in(head.number, drive.slots(), run, slot) {
         let _ = drive.write(slot, &[0; SLOT_BYTES]);
     }
@@ -34,7 +33,8 @@ pub fn wipe<D: Drive>(drive: &mut D, from: u64, upto: u64)
     ensures { Wiped (D.meaning drive.old) from upto (D.meaning drive.new) }
 {
     let run = from..upto;
+    let mut buffer = [0; SLOT_BYTES];
     for slot in 0..drive.slots() {
-        wipe_slot(drive, slot, &run);
+        wipe_slot(drive, slot, &run, &mut buffer);
     }
 }

@@ -1,17 +1,21 @@
 -- A buffer holds the first 256 bytes of a line, and these tell enough. Assumes nothing.
-use Rattle.std.proofs.Common.{◌≡◌, ℕ, zero, suc, ◌-◌, ◌<◌, ◌≤◌, cond, ◌⊎◌, List, [], ◌∷◌, ◌++◌, length, take, ◌↔◌, IsOk, OnOk, OnErr, Ok, Err, Result, sym, refl, ap, ◌∙◌, subst, inl, inr, arith}
-use Rattle.std.proofs.lemmas.List.{append-nil, append_assoc, length_push, length-take-le, take_all, take_at}
+use Rattle.std.proofs.Common.{◌≡◌, ℕ, zero, suc, ◌+◌, ◌-◌, ◌<◌, ◌≤◌, cond, ◌⊎◌, List, [], ◌∷◌, ◌++◌, length, take, set, Ok, Err, Result, sym, refl, ap, ◌∙◌, subst, inl, inr, arith}
+use Rattle.std.proofs.lemmas.List.{append-nil, append_assoc, length_push, length-take-le, take_all, take-append-le, take_more_set}
 use Rattle.std.proofs.lemmas.Bool.{cases_lt, lt-leb}
-use Rattle.arrayvec.specs.ArrayVec.{ArrayVec}
 use Rattle.commands.specs.declared.call.Call.{Call}
 use Rattle.commands.specs.declared.call.Bad.{Bad}
 use Rattle.commands.specs.Reading.{Parsed, misfit, reading, left_of}
 use Rattle.lines.specs.Buffers.{pushed, FrontTells}
 
--- one more byte is taken where there is room, and else nothing changes
-pub push_is : {X E : Type 0} (r : Result X E) (old new : ArrayVec ℕ) (b : ℕ) → IsOk r ↔ (length old.items < 256) → OnOk r (new.items ≡ old.items ++ b ∷ []) → OnErr r (new ≡ old) → OnErr r (length old.items ≡ 256) → new.items ≡ take 256 (old.items ++ b ∷ [])
-push_is (Ok x) old new b room is same full = let h = room.0 refl in is ∙ sym (take_all 256 (old.items ++ b ∷ []) (omega (arith, length_push old.items b)))
-push_is (Err e) old new b room is same full = ap (λ v. v.items) same ∙ sym (take_at old.items (b ∷ []) 256 full)
+pub push_room : (xs : List ℕ) (n b : ℕ) → n < 256 → length xs ≡ 256 → take (n + 1) (set xs n b) ≡ take 256 (take n xs ++ b ∷ [])
+push_room xs n b h l =
+    let long : length (take n xs ++ b ∷ []) ≤ 256 = omega (arith, length_push (take n xs) b, length-take-le n xs (omega arith)) in
+    take_more_set xs n b (omega arith) ∙ sym (take_all 256 (take n xs ++ b ∷ []) long)
+
+pub push_full : (xs : List ℕ) (n b : ℕ) → 256 ≤ n → n ≤ 256 → length xs ≡ 256 → take n xs ≡ take 256 (take n xs ++ b ∷ [])
+push_full xs n b h k l =
+    let long = length-take-le n xs (omega arith) in
+    sym (take-append-le 256 (take n xs) (b ∷ []) (omega arith) ∙ take_all 256 (take n xs) (omega arith))
 
 take_twice : (n : ℕ) (xs ys : List ℕ) → take n (take n xs ++ ys) ≡ take n (xs ++ ys)
 take_twice zero xs ys = refl

@@ -7,7 +7,7 @@ use Rattle.commands.specs.Reading.{Parsed}
 
 -- The bytes that a buffer holds.
 abbrev pub held : LineBuffer → List ℕ
-held b = b.bytes.items
+held b = take b.count b.bytes
 
 -- Bytes pushed one after another leave the first 256 of them.
 abbrev pub pushed : List ℕ → List ℕ → List ℕ

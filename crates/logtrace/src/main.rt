@@ -69,12 +69,10 @@ fn peek<D: Drive>(rt: &HostRuntime, drive: &D, slot: u32) -> io::Result<()> {
         return Ok(());
     }
     let Record { head, block } = Record::read_from(&bytes);
-    print!(rt;
-        "  slot {slot}: record {} for {}, ",
-        head.number, head.address
-    )?;
-    println!(rt; "{} of {}, {}s", head.index, head.count, block[0])?;
-    Ok(())
+    println!(rt;
+        "  slot {slot}: record {} for {}, {} of {}, {}s",
+        head.number, head.address, head.index, head.count, block[0]
+    )
 }
 
 // The drive, if there is memory for it; else says that there is none.

@@ -51,10 +51,10 @@ fn run_line<W: Write>(out: &mut W, trace: &mut Trace, number: u32, line: &[u8]) 
 
 // Runs every line, and shows the maps.
 fn run<R: Read, W: Write>(input: &mut R, out: &mut W, mut trace: Trace) -> io::Result<()> {
-    let mut room = [0u8; 255];
+    let mut line = [0u8; 255];
     for number in 1..u32::MAX {
-        match next_line(input, &mut room)? {
-            Some(Ok(line)) => run_line(out, &mut trace, number, line)?,
+        match next_line(input, &mut line)? {
+            Some(Ok(n)) => run_line(out, &mut trace, number, &line[..n])?,
             Some(Err(TooLong)) => writeln!(out, "{number}: bad line: longer than 255 bytes")?,
             None => break,
         }

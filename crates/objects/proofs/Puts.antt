@@ -24,6 +24,16 @@ put_on at n m next xs ys zs mid after room long is-next first put =
     let back : drop m (drop next mid) ≡ drop (n + m) (drop at xs) = drop-drop m next mid ∙ whole ∙ ap (λ k. drop k xs) (sym sum) ∙ sym (drop-drop (n + m) at xs) in
     put ∙ ap (λ l. l ++ (zs ++ drop m (drop next mid))) front ∙ ap (λ l. (take at xs ++ ys) ++ (zs ++ l)) back ∙ simp append_assoc
 
+-- a put right after a part
+pub put_more : (at n m next : ℕ) (xs ys zs mid after : List ℕ) → at + n + m ≤ length xs → length ys ≡ n → next ≡ at + n → mid ≡ put_mid at n xs ys → after ≡ placed next m zs mid → after ≡ put_mid at (n + m) xs (ys ++ zs)
+put_more at n m next xs ys zs mid after room long is-next first second =
+    let size : length mid ≡ length xs = ap length first ∙ length_put_mid at n xs ys (omega arith) long in
+    put_on at n m next xs ys zs mid after room long is-next first (second ∙ placed_is next m zs mid (omega arith))
+
+-- the first put
+pub put_first : (at n : ℕ) (xs ys after : List ℕ) → at + n ≤ length xs → after ≡ placed at n ys xs → after ≡ put_mid at n xs ys
+put_first at n xs ys after room e = e ∙ placed_is at n ys xs room
+
 -- a part of a fixed count of bytes that has room
 pub put_part_of : (at n : ℕ) (mid part bytes after : List ℕ) → after ≡ placed at (length part) part mid → part ≡ bytes → length bytes ≡ n → at + n ≤ length mid → after ≡ put_mid at n mid bytes
 put_part_of at n mid part bytes after put is long room =

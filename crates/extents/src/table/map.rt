@@ -32,7 +32,7 @@ impl<T: Target> Model for ExtentMap<T> {
 
     ghost Value = { Mapped T };
 
-    ghost view = { λ m. record { blocks = m.blocks; extents = vec_items m.entries } };
+    ghost view = { λ m. record { blocks = m.blocks; extents = vec_items m.entries; room = vec_capacity m.entries } };
 
     ghost invariant = { λ m. Sound T.advanced T.same T.fits m.blocks (vec_items m.entries) (vec_capacity m.entries) };
 }

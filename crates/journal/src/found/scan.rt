@@ -54,13 +54,12 @@ impl Found {
 }
 
 // The head in the slot of a record.
-fn head_at<D: Drive>(drive: &D, number: u64) -> Head
+fn head_at<D: Drive>(drive: &D, number: u64, buffer: &mut [u8; SLOT_BYTES]) -> Head
     ensures { result ≡ head_of (slot_at (D.meaning drive.now).current number) }
 {
-    let mut bytes = [0; SLOT_BYTES];
     let slot = number % u64::from(drive.slots());
-    let _ = drive.read(slot as u32, &mut bytes);
-    Head::read_from(&bytes)
+    let _ = drive.read(slot as u32, buffer);
+    Head::read_from(buffer)
 }
 
 // Takes one write after another from a record on, until none stands or the next would pass the most that may be taken.
@@ -74,16 +73,17 @@ fn take_writes<D: Drive>(drive: &D, blocks: u32, from: u64, most: u64, found: &m
     ensures room { found.new.room ≡ found.old.room }
 {
     found.clear();
+    let mut buffer = [0; SLOT_BYTES];
     let mut taken = 0;
     'writes: loop {
         let at = from + taken;
-        let first = head_at(drive, at);
+        let first = head_at(drive, at, &mut buffer);
         if !first.begins(at, blocks, most - taken) {
             break;
         }
         let write = Write { first };
         for i in 1..first.count {
-            if !head_at(drive, at + u64::from(i)).is_of(&write, i) {
+            if !head_at(drive, at + u64::from(i), &mut buffer).is_of(&write, i) {
                 break 'writes;
             }
         }

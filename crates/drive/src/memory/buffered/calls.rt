@@ -5,7 +5,7 @@ ghost use Rattle.drive.specs.Held.{buffered};
 ghost use Rattle.std.proofs.Common.{rules};
 
 use super::BufferedDrive;
-use crate::memory::{take_over, zeros};
+use crate::memory::zeros;
 use crate::{Drive, DriveFault, MakeFault, SLOT_BYTES};
 use std::alloc::Global;
 
@@ -42,19 +42,15 @@ impl Drive for BufferedDrive {
     }
 
     fn flush(&mut self) {
-        let safe = &mut self.safe;
-        let current = &self.current;
-        safe.slots.copy_from_slice(&current.slots);
+        self.safe.copy(&self.current);
     }
 
     fn cut(&mut self, kept: u64)
         ensures cut { Cut (buffered self.old) (buffered self.new) }
         ensures settles { buffered self.new ≡ cut_by (bit kept) (buffered self.old) }
     {
-        let safe = &mut self.safe;
-        let current = &mut self.current;
-        take_over(&mut safe.slots, &current.slots, kept);
-        current.slots.copy_from_slice(&safe.slots);
+        self.safe.keep(&self.current, kept);
+        self.current.copy(&self.safe);
     }
 
     fn blank(&mut self) {

@@ -7,6 +7,7 @@ ghost use Rattle.extents.specs.Answers.{Made, Inserted, Appended, Dropped};
 use super::ExtentMap;
 use crate::extent::Extent;
 use crate::fault::MapFault;
+use crate::table::sieve;
 use crate::target::{Ordered, Target};
 use std::alloc::Global;
 
@@ -94,6 +95,7 @@ impl<T: Ordered> ExtentMap<T> {
     pub fn drop_below(&mut self, limit: T)
         ensures { Dropped T.Target.advanced T.Target.same T.below limit self.old self.new }
     {
-        self.entries.retain_mut(|e| e.trim(limit));
+        let left = sieve(self.entries.as_mut_slice(), limit);
+        self.entries.truncate(left);
     }
 }

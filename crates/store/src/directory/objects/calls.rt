@@ -1,6 +1,7 @@
 // The calls of a store over any space.
 ghost use Rattle.std.specs.Prelude.{◌≡◌, ◌+◌, ◌<◌, true, false, length, get_or, take, None, Some, MatchResult};
-ghost use Rattle.store.specs.Calls.{putting, put_refusal, Polled, PolledInTurn, deleting, vanishing, CutTo, CutBy, Made};
+ghost use Rattle.store.specs.Views.{next_from};
+ghost use Rattle.store.specs.Calls.{putting, put_refusal, Polled, PolledInTurn, sized, Got, Deleted, deleting, vanishing, CutTo, CutBy, Made};
 ghost use Rattle.store.specs.Held.{held};
 ghost use Rattle.store.specs.Entries.{total, waits, blank};
 
@@ -84,6 +85,72 @@ impl<S: Space> ObjectStore<S> {
         self.used -= S::room(e.length);
         self.load -= S::weight(e.length);
     }
+
+    // Lands the pending object whose turn it is, if any.
+    fn land_next(&mut self) -> Option<u32>
+        ensures any { Polled (held self.old) result (held self.new) }
+        ensures turn { PolledInTurn S.turn (held self.old) result (held self.new) }
+    {
+        let i = S::next(&self.directory)?;
+        Some(self.directory.land(i))
+    }
+
+    // The length of a landed object.
+    fn length_of(&self, number: u32) -> Result<u32, StoreFault>
+        ensures { result ≡ sized (held self.now) number }
+    {
+        let i = self.directory.find(number)?;
+        Ok(self.directory.entries[i].length)
+    }
+
+    // Copies a part of a landed object.
+    fn copy_out(&self, number: u32, from: u32, out: &mut [u8]) -> Result<(), StoreFault>
+        ensures { Got (held self.now) number from out.old result out.new }
+    {
+        let i = self.directory.find_part(number, from, out.len())?;
+        self.space.read(self.start(i) + from as usize, out);
+        Ok(())
+    }
+
+    // The lowest landed number from `from` on.
+    fn lowest_landed(&self, from: u32) -> Option<u32>
+        ensures { result ≡ next_from (held self.now).landed from }
+    {
+        self.directory.lowest_from(from)
+    }
+
+    // How many puts are pending.
+    fn pending_puts(&self) -> u32
+        ensures { result ≡ length (held self.now).pending }
+    {
+        self.directory.waiting
+    }
+
+    // Removes a landed object.
+    fn discard(&mut self, number: u32) -> Result<(), StoreFault>
+        ensures { Deleted (held self.old) number result (held self.new) }
+    {
+        let at = self.directory.find(number)?;
+        self.remove(at);
+        Ok(())
+    }
+
+    // Lands or removes each pending object, the oldest by the lowest bit.
+    fn settle(&mut self, survivors: u64)
+        ensures any { CutTo (held self.old) (held self.new) }
+        ensures bits { CutBy survivors (held self.old) (held self.new) }
+    {
+        // One turn for each pending put, which it takes off the pending ones; nothing is counted.
+        let mut bits = survivors;
+        while let Some(i) = self.directory.oldest() {
+            if bits % 2 == 1 {
+                self.directory.land(i);
+            } else {
+                self.remove(i);
+            }
+            bits /= 2;
+        }
+    }
 }
 
 impl<S: Space> Store for ObjectStore<S> {
@@ -99,48 +166,33 @@ impl<S: Space> Store for ObjectStore<S> {
         ensures any { Polled (held self.old) result (held self.new) }
         ensures turn { PolledInTurn S.turn (held self.old) result (held self.new) }
     {
-        let i = S::next(&self.directory)?;
-        Some(self.directory.land(i))
+        self.land_next()
     }
 
     fn size(&self, number: u32) -> Result<u32, StoreFault> {
-        let i = self.directory.find(number)?;
-        Ok(self.directory.entries[i].length)
+        self.length_of(number)
     }
 
     fn get(&self, number: u32, from: u32, out: &mut [u8]) -> Result<(), StoreFault> {
-        let i = self.directory.find_part(number, from, out.len())?;
-        self.space.read(self.start(i) + from as usize, out);
-        Ok(())
+        self.copy_out(number, from, out)
     }
 
     fn next(&self, from: u32) -> Option<u32> {
-        self.directory.lowest_from(from)
+        self.lowest_landed(from)
     }
 
     fn waiting(&self) -> u32 {
-        self.directory.waiting
+        self.pending_puts()
     }
 
     fn delete(&mut self, number: u32) -> Result<(), StoreFault> {
-        let at = self.directory.find(number)?;
-        self.remove(at);
-        Ok(())
+        self.discard(number)
     }
 
     fn cut(&mut self, survivors: u64)
         ensures any { CutTo (held self.old) (held self.new) }
         ensures bits { CutBy survivors (held self.old) (held self.new) }
     {
-        // One turn for each pending put, which it takes off the pending ones; nothing is counted.
-        let mut bits = survivors;
-        while let Some(i) = self.directory.oldest() {
-            if bits % 2 == 1 {
-                self.directory.land(i);
-            } else {
-                self.remove(i);
-            }
-            bits /= 2;
-        }
+        self.settle(survivors);
     }
 }

@@ -75,5 +75,7 @@ fn retire(order: &mut Vec<u8>, at: usize, count: usize)
 fn all_pages(heap: Global, count: u8) -> Result<Vec<u8>, AllocError>
     ensures { IfOk result (λ v. (vec_len v ≡ count) × (below count v.items ≡ true) × GivenOnce v.items) }
 {
-    (0..count).collect(heap)
+    let mut order = Vec::with_capacity(heap, usize::from(count))?;
+    order.extend(0..count)?;
+    Ok(order)
 }

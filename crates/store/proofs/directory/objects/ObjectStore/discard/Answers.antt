@@ -4,7 +4,7 @@ use Rattle.store.specs.Held.{held}
 use Rattle.store.specs.Calls.{deleting}
 use Rattle.store.proofs.Holding.{holds}
 use Rattle.store.proofs.Answered.{delete_absent, delete_found}
-use Rattle.store.proofs.directory.objects.calls.ObjectStoreStore.delete.Goals as goal
+use Rattle.store.proofs.directory.objects.ObjectStore.discard.Goals as goal
 
 pub returns-in_err-at : goal.returns-in_err-at
 returns-in_err-at g c =

@@ -3,7 +3,7 @@ use Rattle.store.specs.Entries.{waits}
 use Rattle.store.proofs.Holding.{holds, lands, lands_next}
 use Rattle.store.proofs.Answered.{none_pending}
 use Rattle.store.proofs.Changes.{total_risen}
-use Rattle.store.proofs.directory.objects.calls.ObjectStoreStore.poll.Goals as goal
+use Rattle.store.proofs.directory.objects.ObjectStore.land_next.Goals as goal
 
 pub returns-in_err-i : goal.returns-in_err-i
 returns-in_err-i g c =

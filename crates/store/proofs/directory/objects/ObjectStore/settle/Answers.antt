@@ -4,8 +4,8 @@ use Rattle.store.proofs.Cuts.{cut_none, cut_to, cut_on_lands, cut_on_loses}
 use Rattle.store.proofs.Holding.{holds, lands}
 use Rattle.store.proofs.Answered.{none_pending, some_pending}
 use Rattle.store.proofs.Changes.{total_risen}
-use Rattle.store.proofs.directory.objects.calls.ObjectStoreStore.cut.Goals as goal
-use Rattle.store.proofs.directory.objects.calls.ObjectStoreStore.cut.Goals.{then-bits-eq1, else-bits-eq1}
+use Rattle.store.proofs.directory.objects.ObjectStore.settle.Goals as goal
+use Rattle.store.proofs.directory.objects.ObjectStore.settle.Goals.{then-bits-eq1, else-bits-eq1}
 
 pub invariant_of-self : goal.invariant_of-self
 invariant_of-self g c =

@@ -1,7 +1,7 @@
 use Rattle.store.specs.Views.{StoreView}
 use Rattle.store.specs.Calls.{CutBy}
 use Rattle.store.specs.Held.{held}
-use Rattle.store.proofs.directory.objects.calls.ObjectStoreStore.cut.Given as goal
+use Rattle.store.proofs.directory.objects.ObjectStore.settle.Given as goal
 
 -- what the rest of the cut comes to, the whole does
 abbrev pub invariant-loop-i : goal.invariant-loop-i

@@ -4,7 +4,7 @@ use Rattle.std.proofs.lemmas.Result.{err_from_is_err_and}
 use Rattle.store.specs.Entries.{blank}
 use Rattle.store.proofs.Holding.{holds}
 use Rattle.store.proofs.Answered.{sized_absent, sized_found}
-use Rattle.store.proofs.directory.objects.calls.ObjectStoreStore.size.Goals as goal
+use Rattle.store.proofs.directory.objects.ObjectStore.length_of.Goals as goal
 
 pub returns-in_err-i : goal.returns-in_err-i
 returns-in_err-i g c =

@@ -2,7 +2,7 @@ use Rattle.std.proofs.Common.{◌+◌, length, take, drop, sym, refl, ap, ◌∙
 use Rattle.std.proofs.lemmas.Result.{err_from_is_err_and}
 use Rattle.store.proofs.Holding.{holds}
 use Rattle.store.proofs.Answered.{part_refused, part_at, get_granted, lies_within}
-use Rattle.store.proofs.directory.objects.calls.ObjectStoreStore.get.Goals as goal
+use Rattle.store.proofs.directory.objects.ObjectStore.copy_out.Goals as goal
 
 pub returns-in_err-i : goal.returns-in_err-i
 returns-in_err-i g c =
